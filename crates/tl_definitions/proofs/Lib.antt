@@ -1,0 +1,18 @@
+pub mod Regions
+pub mod Joined
+pub mod Neighbours
+pub mod Decide
+pub mod Sublists
+pub mod Lines
+pub mod Cases
+mod SmallSquares
+mod LatticeExamples
+mod CircuitExamples
+mod HeightExamples
+mod SweepExamples
+mod DiamondExamples
+mod SampleExamples
+mod TextExamples
+mod RefusalExamples
+mod EdgeExamples
+mod Laws
