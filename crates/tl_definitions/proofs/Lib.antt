@@ -4,6 +4,8 @@ pub mod Neighbours
 pub mod Decide
 pub mod Sublists
 pub mod Lines
+pub mod Raster
+pub mod RegionTexts
 pub mod Cases
 mod SmallSquares
 mod LatticeExamples

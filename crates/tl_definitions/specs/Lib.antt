@@ -3,6 +3,7 @@ pub mod Region
 pub mod Input
 pub mod Accepted
 pub mod RegionText
+pub mod Marks
 pub mod Tiling
 pub mod Drawing
 pub mod Flip

@@ -1,0 +1,103 @@
+//! Sources and sinks over memory, and reading and writing all through them.
+
+ghost use Rattle.std.specs.Prelude.{◌≤◌};
+
+use crate::{
+    FreeGate, Gate, Gave, InFault, MemSink, MemSource, Sink, Source, Took, read_all, write_all,
+};
+use std::alloc::{AllocError, Global};
+
+fn source(alloc: Global, bytes: &[u8], piece: usize, fails: &[u64]) -> Result<MemSource, AllocError>
+    requires { 1 ≤ piece }
+{
+    Ok(MemSource::new(
+        Vec::from_slice(alloc, bytes)?,
+        piece,
+        Vec::from_slice(alloc, fails)?,
+    ))
+}
+
+#[test]
+fn a_source_gives_pieces_fails_by_number_and_ends(rt: HostRuntime) -> Result<(), AllocError> {
+    let mut source = source(rt.alloc(), b"abcdef", 4, &[1])?;
+    let mut buf = [0u8; 8];
+    assert_eq!(rt; source.read(&mut buf), Took::Bytes(4));
+    assert_eq!(rt; &buf[..4], b"abcd".as_slice());
+    assert_eq!(rt; source.read(&mut buf), Took::Failed);
+    let mut one = [0u8; 1];
+    assert_eq!(rt; source.read(&mut one), Took::Bytes(1));
+    assert_eq!(rt; one[0], b'e');
+    assert_eq!(rt; source.read(&mut buf), Took::Bytes(1));
+    assert_eq!(rt; source.read(&mut buf), Took::End);
+    Ok(())
+}
+
+#[test]
+fn a_sink_takes_pieces_up_to_its_room(rt: HostRuntime) -> Result<(), AllocError> {
+    let mut sink = MemSink::new(rt.alloc(), 7, 5, Vec::from_slice(rt.alloc(), &[1])?)?;
+    assert_eq!(rt; sink.write(b"abcdefgh"), Gave::Bytes(5));
+    assert_eq!(rt; sink.write(b"fgh"), Gave::Failed);
+    assert_eq!(rt; sink.write(b"fgh"), Gave::Bytes(2));
+    assert_eq!(rt; sink.write(b"h"), Gave::Failed);
+    assert_eq!(rt; sink.held(), b"abcdefg".as_slice());
+    Ok(())
+}
+
+#[test]
+fn all_bytes_are_read_up_to_the_limit(rt: HostRuntime) -> Result<(), AllocError> {
+    for (limit, want) in [(6usize, true), (7, true), (5, false), (0, false)] {
+        let mut source = source(rt.alloc(), b"abcdef", 4, &[])?;
+        match read_all(rt.alloc(), &mut source, limit) {
+            Ok(bytes) => {
+                assert!(rt; want, "limit {limit}");
+                assert_eq!(rt; bytes.as_slice(), b"abcdef".as_slice());
+            }
+            Err(fault) => {
+                assert!(rt; !want, "limit {limit}");
+                assert_eq!(rt; fault, InFault::InputTooLong);
+            }
+        }
+    }
+    Ok(())
+}
+
+#[test]
+fn a_failed_read_stops_reading(rt: HostRuntime) -> Result<(), AllocError> {
+    let mut source = source(rt.alloc(), b"abcdef", 4, &[1])?;
+    assert!(rt;
+        matches!(
+            read_all(rt.alloc(), &mut source, 100),
+            Err(InFault::ReadFault)
+        )
+    );
+    let mut buf = [0u8; 8];
+    assert_eq!(rt; source.read(&mut buf), Took::Bytes(2));
+    assert_eq!(rt; &buf[..2], b"ef".as_slice());
+    Ok(())
+}
+
+#[test]
+fn all_bytes_are_written_in_pieces(rt: HostRuntime) -> Result<(), AllocError> {
+    let mut sink = MemSink::new(rt.alloc(), 64, 5, Vec::new(rt.alloc()))?;
+    assert!(rt; write_all(&mut sink, b"drop no byte").is_ok());
+    assert!(rt; write_all(&mut sink, b"").is_ok());
+    assert_eq!(rt; sink.held(), b"drop no byte".as_slice());
+    Ok(())
+}
+
+#[test]
+fn a_failed_write_leaves_what_was_taken(rt: HostRuntime) -> Result<(), AllocError> {
+    let mut sink = MemSink::new(rt.alloc(), 64, 5, Vec::from_slice(rt.alloc(), &[1])?)?;
+    assert!(rt; write_all(&mut sink, b"drop no byte").is_err());
+    assert_eq!(rt; sink.held(), b"drop ".as_slice());
+    Ok(())
+}
+
+#[test]
+fn the_free_gate_lets_pass(rt: HostRuntime) {
+    let gate = FreeGate;
+    gate.pass(0, 0);
+    gate.posted(0, 0);
+    gate.hand(0, 1, 0);
+    assert_eq!(rt; gate, FreeGate);
+}

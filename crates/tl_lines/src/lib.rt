@@ -1,0 +1,83 @@
+//! The lines of an input, and the sections that they form.
+#![tactic(auto)]
+
+ghost use Rattle.std.specs.Prelude.{◌≡◌, ◌<◌, length};
+ghost use Rattle.tl_definitions.specs.Input.{without_end, further_section, rest_is_empty as only_line_ends};
+ghost use Rattle.std.specs.Option.{option_copied};
+ghost use Rattle.tl_lines.specs.Lines.{IsFirstLine, IsNextLine, section_at};
+
+use memchr::memchr;
+
+// The text without a carriage return at its end.
+fn without_return(text: &[u8]) -> &[u8]
+    ensures { result.now ≡ without_end 13 text.now }
+{
+    match text {
+        [front @ .., b'\r'] => front,
+        _ => text,
+    }
+}
+
+/// Cuts the first line off an input that isn't empty: the line without its end, and what follows.
+///
+/// A line ends with a line feed or with the input. A carriage return before either is no part of it.
+pub fn cut_line(bytes: &[u8]) -> (&[u8], &[u8])
+    requires { 0 < length bytes.now }
+    ensures first { IsFirstLine bytes.now result.0.now result.1.now }
+    ensures shorter { length result.1.now < length bytes.now }
+{
+    match memchr(b'\n', bytes) {
+        Some(end) => (without_return(&bytes[..end]), &bytes[end + 1..]),
+        None => (without_return(bytes), &bytes[bytes.len()..]),
+    }
+}
+
+/// The next line of a section whose first line was read, and what follows it; or nothing, and what follows
+/// the section. An empty line ends the section, which takes it.
+pub fn next_line(bytes: &[u8]) -> (Option<&[u8]>, &[u8])
+    ensures { IsNextLine bytes.now (option_copied result.0) result.1.now }
+{
+    if bytes.is_empty() {
+        return (None, bytes);
+    }
+    let (line, rest) = cut_line(bytes);
+    if line.is_empty() {
+        (None, rest)
+    } else {
+        (Some(line), rest)
+    }
+}
+
+/// What is left of the input after empty lines. The lines of a further section are those that `next_line`
+/// gives from there on.
+pub fn skip_empty_lines(bytes: &[u8]) -> &[u8]
+    ensures { section_at result.now ≡ further_section bytes.now }
+{
+    let mut rest = bytes;
+    while !rest.is_empty() {
+        let (line, after) = cut_line(rest);
+        if !line.is_empty() {
+            break;
+        }
+        rest = after;
+    }
+    rest
+}
+
+/// Whether only line ends stand in the bytes, each with or without a carriage return before it.
+pub fn rest_is_empty(bytes: &[u8]) -> bool
+    ensures { result ≡ only_line_ends bytes.now }
+{
+    let mut rest = bytes;
+    while !rest.is_empty() {
+        let (line, after) = cut_line(rest);
+        if !line.is_empty() {
+            return false;
+        }
+        rest = after;
+    }
+    true
+}
+
+#[cfg(test)]
+mod tests;
