@@ -69,3 +69,23 @@ filter-rows_marks p test columns r (l ∷ ls) same =
 -- the places of a rectangle that pass, row by row
 pub filter-places : (p : Cell → Bool) (rows columns : ℕ) → filter p (places rows columns) ≡ flat_map (λ r. filter p (row_part r 0 columns)) (upto rows)
 filter-places p rows columns = filter-flat_map p (λ r. row_part r 0 columns) (upto rows)
+
+-- tests that agree on a row, and on a rectangle, pass the same places
+pub filter-row_same : (p q : Cell → Bool) (r c n : ℕ) → ((k : ℕ) → c ≤ k → k < c + n → p (cell r k) ≡ q (cell r k)) → filter p (row_part r c n) ≡ filter q (row_part r c n)
+filter-row_same p q r c zero same = refl
+filter-row_same p q r c (suc n) same =
+    ap (λ (b : Bool). cond b (cell r c ∷ filter p (row_part r (c + 1) n)) (filter p (row_part r (c + 1) n))) (same c (omega arith) (omega arith))
+    ∙ ap (λ (l : List Cell). cond (q (cell r c)) (cell r c ∷ l) l) (filter-row_same p q r (c + 1) n (λ k h l. same k (omega (arith, h)) (omega (arith, l))))
+
+flat_map-rows_same : (f g : ℕ → List Cell) (r n : ℕ) → ((k : ℕ) → r ≤ k → k < r + n → f k ≡ g k) → flat_map f (range_with_len r n) ≡ flat_map g (range_with_len r n)
+flat_map-rows_same f g r zero same = refl
+flat_map-rows_same f g r (suc n) same =
+    ap (λ (l : List Cell). l ++ flat_map f (range_with_len (r + 1) n)) (same r (omega arith) (omega arith))
+    ∙ ap (λ (l : List Cell). g r ++ l) (flat_map-rows_same f g (r + 1) n (λ k h l. same k (omega (arith, h)) (omega (arith, l))))
+
+pub filter-places_same : (p q : Cell → Bool) (rows columns : ℕ) → ((a : Cell) → a.r < rows → a.c < columns → p a ≡ q a) → filter p (places rows columns) ≡ filter q (places rows columns)
+filter-places_same p q rows columns same =
+    filter-places p rows columns
+    ∙ flat_map-rows_same (λ r. filter p (row_part r 0 columns)) (λ r. filter q (row_part r 0 columns)) 0 rows
+    (λ r h l. filter-row_same p q r 0 columns (λ c i j. same (cell r c) (omega (arith, l)) (omega (arith, j))))
+    ∙ sym (filter-places q rows columns)

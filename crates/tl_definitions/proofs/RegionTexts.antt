@@ -1,15 +1,18 @@
 -- The region and the first bad byte of a text, row by row.
-use Rattle.std.proofs.Common.{◌≡◌, ℕ, zero, suc, ◌+◌, ◌-◌, ◌<◌, ◌≤◌, Bool, true, false, not, ◌||◌, List, [], ◌∷◌, ◌++◌, map, length, cond, Option, Some, None, refl, sym, ◌∙◌, ap, subst, arith}
+use Rattle.std.proofs.Common.{◌≡◌, ℕ, zero, suc, ◌+◌, ◌-◌, ◌<◌, ◌≤◌, Bool, true, false, not, ◌||◌, ◌&&◌, List, [], ◌∷◌, ◌++◌, map, length, cond, Option, Some, None, refl, sym, ◌∙◌, ap, subst, arith}
 use Rattle.std.specs.Prelude.{filter, flat_map, find, slice_get, fold, max, slice_index_or}
-use Rattle.std.specs.List.{range_with_len}
+use Rattle.std.specs.List.{range_with_len, list_any}
+use Rattle.std.proofs.lemmas.Bool.{lt-ltb}
 use Rattle.std.proofs.lemmas.Option.{slice_get_past, slice_get_within, get_or_from_slice_get}
 use Rattle.tl_definitions.specs.declared.Kind.{Kind}
 use Rattle.tl_definitions.specs.declared.Cell.{Cell}
-use Rattle.tl_definitions.specs.Lattice.{cell}
+use Rattle.tl_definitions.specs.Lattice.{cell, cell_eq}
+use Rattle.tl_definitions.specs.Accepted.{IsPlaced}
+use Rattle.tl_definitions.proofs.Regions.{any-filter-places}
 use Rattle.tl_definitions.specs.Region.{places, upto}
 use Rattle.tl_definitions.specs.RegionText.{byte_at, is_byte, is_blank, longest, first_bad_byte, region_of}
 use Rattle.tl_definitions.specs.Marks.{row_part, marks, text_marks, is_hash, is_bad}
-use Rattle.tl_definitions.proofs.Raster.{find-filter, filter-row_cut, filter-row_marks, filter-rows_marks, filter-places}
+use Rattle.tl_definitions.proofs.Raster.{find-filter, filter-row_cut, filter-row_marks, filter-rows_marks, filter-places, filter-places_same}
 
 -- ---- the longest row
 
@@ -62,3 +65,18 @@ pub first_bad_byte-marks : (rows : List (List ℕ)) → first_bad_byte rows ≡ 
 first_bad_byte-marks rows =
     find-filter (λ p. not (is_byte 35 (byte_at rows p) || is_blank (byte_at rows p))) (places (length rows) (longest rows))
     ∙ ap (λ (l : List Cell). slice_get l 0) (filter-passes (λ o. not (is_byte 35 o || is_blank o)) rows (longest rows) refl (length-longest rows))
+
+-- ---- the cells of a rectangle that pass a test stand in raster order
+
+pub filter-placed : (p : Cell → Bool) (rows columns : ℕ) → filter p (places rows columns) ≡ filter (λ a. list_any (cell_eq a) (filter p (places rows columns))) (places rows columns)
+filter-placed p rows columns = filter-places_same p (λ a. list_any (cell_eq a) (filter p (places rows columns))) rows columns inside
+  where
+    inside : (a : Cell) → a.r < rows → a.c < columns → p a ≡ list_any (cell_eq a) (filter p (places rows columns))
+    inside a h k = sym (any-filter-places p a rows columns ∙ ap (λ b. p a && b) (rw (lt-ltb a.r rows h, lt-ltb a.c columns k) refl) ∙ and_true (p a))
+      where
+        and_true : (b : Bool) → (b && true) ≡ b
+        and_true true = refl
+        and_true false = refl
+
+pub region_of-placed : (k : Kind) (rows : List (List ℕ)) → IsPlaced (region_of k rows)
+region_of-placed k rows = filter-placed (λ p. is_byte 35 (byte_at rows p)) (length rows) (longest rows)

@@ -1,7 +1,7 @@
 //! The lines of an input, and the sections that they form.
 #![tactic(auto)]
 
-ghost use Rattle.std.specs.Prelude.{◌≡◌, ◌<◌, length};
+ghost use Rattle.std.specs.Prelude.{◌≡◌, ◌<◌, ◌≤◌, length, IfSome, OnSome};
 ghost use Rattle.tl_definitions.specs.Input.{without_end, further_section, rest_is_empty as only_line_ends};
 ghost use Rattle.std.specs.Option.{option_copied};
 ghost use Rattle.tl_lines.specs.Lines.{IsFirstLine, IsNextLine, section_at};
@@ -10,7 +10,8 @@ use memchr::memchr;
 
 // The text without a carriage return at its end.
 fn without_return(text: &[u8]) -> &[u8]
-    ensures { result.now ≡ without_end 13 text.now }
+    ensures text { result.now ≡ without_end 13 text.now }
+    ensures within { length result.now ≤ length text.now }
 {
     match text {
         [front @ .., b'\r'] => front,
@@ -24,6 +25,7 @@ fn without_return(text: &[u8]) -> &[u8]
 pub fn cut_line(bytes: &[u8]) -> (&[u8], &[u8])
     requires { 0 < length bytes.now }
     ensures first { IsFirstLine bytes.now result.0.now result.1.now }
+    ensures within { length result.0.now ≤ length bytes.now }
     ensures shorter { length result.1.now < length bytes.now }
 {
     match memchr(b'\n', bytes) {
@@ -35,7 +37,10 @@ pub fn cut_line(bytes: &[u8]) -> (&[u8], &[u8])
 /// The next line of a section whose first line was read, and what follows it; or nothing, and what follows
 /// the section. An empty line ends the section, which takes it.
 pub fn next_line(bytes: &[u8]) -> (Option<&[u8]>, &[u8])
-    ensures { IsNextLine bytes.now (option_copied result.0) result.1.now }
+    ensures next { IsNextLine bytes.now (option_copied result.0) result.1.now }
+    ensures within { IfSome result.0 (λ line. length line.now ≤ length bytes.now) }
+    ensures left { length result.1.now ≤ length bytes.now }
+    ensures shorter { OnSome result.0 (length result.1.now < length bytes.now) }
 {
     if bytes.is_empty() {
         return (None, bytes);
@@ -51,7 +56,8 @@ pub fn next_line(bytes: &[u8]) -> (Option<&[u8]>, &[u8])
 /// What is left of the input after empty lines. The lines of a further section are those that `next_line`
 /// gives from there on.
 pub fn skip_empty_lines(bytes: &[u8]) -> &[u8]
-    ensures { section_at result.now ≡ further_section bytes.now }
+    ensures section { section_at result.now ≡ further_section bytes.now }
+    ensures left { length result.now ≤ length bytes.now }
 {
     let mut rest = bytes;
     while !rest.is_empty() {

@@ -1,0 +1,4 @@
+pub mod Grid
+pub mod Refusals
+pub mod Rows
+pub mod Texts

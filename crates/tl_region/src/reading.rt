@@ -1,0 +1,65 @@
+//! Reading the text of a region.
+
+ghost use Rattle.std.specs.Prelude.{◌≡◌, ◌≤◌, ◌^◌, length, IfOk, IfErr, IfSome};
+ghost use Rattle.tl_definitions.specs.Input.{first_section, taken};
+ghost use Rattle.tl_lines.specs.Lines.{section_at};
+ghost use Rattle.tl_region.specs.Refusals.{refusal_by};
+ghost use Rattle.tl_definitions.specs.Accepted.{IsPlaced};
+ghost use Rattle.tl_region.specs.Rows.{region_by, HasAllowedSize, HasRefusedSize};
+ghost use Rattle.tl_region.specs.Texts.{IsReadableText, IsUnreadableText};
+
+use crate::fault::RegionFault;
+use crate::flags::flags_of;
+use crate::header::kind_of;
+use crate::region::Region;
+use crate::rows::{Rows, read_rows};
+use std::alloc::Global;
+use tl_lattice::Kind;
+use tl_lines::cut_line;
+
+/// The greatest number of rows, and of columns.
+const LIMIT: u32 = 512;
+
+// The region of rows that were read, where it isn't too large or empty.
+fn region_from(alloc: Global, kind: Kind, rows: Rows) -> Result<Region, RegionFault>
+    requires { IsPlaced (region_by kind rows) }
+    ensures region { IfOk result (λ R. (R ≡ region_by kind rows) × HasAllowedSize R) }
+    ensures refused { IfErr result (λ fault. IfSome (refusal_by fault) (HasRefusedSize (region_by kind rows))) }
+{
+    if rows.count > LIMIT || rows.columns > LIMIT {
+        return Err(RegionFault::TooLarge);
+    }
+    if rows.cells.is_empty() {
+        return Err(RegionFault::Empty);
+    }
+    let Ok(flags) = flags_of(alloc, rows.count, rows.columns, rows.cells.as_slice()) else {
+        return Err(RegionFault::OutOfMemory);
+    };
+    Ok(Region::with_flags(kind, rows.count, rows.columns, rows.cells, flags))
+}
+
+/// Reads the region of the first section, and tells the number of bytes taken, the closing empty line
+/// included. There are at most 2^22 bytes.
+///
+/// The first line is the header: `square` or `triangle`, after which any number of spaces may stand. Each
+/// further line is a row, in which `#` is a cell of the region and `.` and a space are none.
+///
+/// # Errors
+/// The first cause in the order of `RegionFault`.
+pub fn read_region(alloc: Global, bytes: &[u8]) -> Result<(Region, usize), RegionFault>
+    requires { length bytes.now ≤ 2 ^ 22 }
+    ensures region { IfOk result (λ p. IsReadableText (first_section bytes.now).lines p.0) }
+    ensures taken { IfOk result (λ p. p.1 ≡ taken bytes.now (first_section bytes.now)) }
+    ensures refused { IfErr result (λ fault. IfSome (refusal_by fault) (IsUnreadableText (first_section bytes.now).lines)) }
+{
+    if bytes.is_empty() {
+        return Err(RegionFault::BadHeader);
+    }
+    let (header, text) = cut_line(bytes);
+    let Some(kind) = kind_of(header) else {
+        return Err(RegionFault::BadHeader);
+    };
+    let (rows, rest) = read_rows(alloc, text)?;
+    let region = region_from(alloc, kind, rows)?;
+    Ok((region, bytes.len() - rest.len()))
+}

@@ -1,0 +1,68 @@
+//! The rows of a region's text.
+
+ghost use Rattle.std.specs.Prelude.{◌≡◌, ◌+◌, ◌<◌, ◌≤◌, ◌^◌, ◌++◌, length, slice_get, IfOk, IfErr, IfSome, None};
+ghost use Rattle.tl_definitions.specs.Marks.{marks, is_hash, is_bad};
+ghost use Rattle.tl_lines.specs.Lines.{section_at};
+ghost use Rattle.tl_region.specs.Rows.{IsRowsOf, IsBadByteOf};
+ghost use Rattle.tl_region.specs.Refusals.{refusal_by};
+
+use crate::fault::RegionFault;
+use std::alloc::{AllocError, Global};
+use tl_lattice::Cell;
+use tl_lines::next_line;
+
+/// What the rows name: how many there are, the greatest number of bytes in one of them, and their cells in
+/// raster order.
+#[derive(Drop)]
+pub struct Rows {
+    pub count: u32,
+    pub columns: u32,
+    pub cells: Vec<Cell>,
+}
+
+// Adds the cells of a row, or gives its first bad byte.
+fn read_row(line: &[u8], r: u32, cells: &mut Vec<Cell>) -> Result<Option<Cell>, AllocError>
+    requires { length line.now < 2 ^ 32 }
+    ensures bad { IfOk result (λ bad. bad ≡ slice_get (marks is_bad r 0 line.now) 0) }
+    ensures cells { IfOk result (λ bad. bad ≡ None → cells.new.items ≡ cells.old.items ++ marks is_hash r 0 line.now) }
+{
+    for (c, byte) in line.iter().enumerate() {
+        let cell = Cell { r, c: c as u32 };
+        match *byte {
+            b'#' => cells.push(cell)?,
+            b'.' | b' ' => {}
+            _ => return Ok(Some(cell)),
+        }
+    }
+    Ok(None)
+}
+
+/// Reads the rows of a section whose header was read, and gives what follows the section.
+pub fn read_rows(alloc: Global, text: &[u8]) -> Result<(Rows, &[u8]), RegionFault>
+    requires { length text.now ≤ 2 ^ 22 }
+    ensures rows { IfOk result (λ p. IsRowsOf (section_at text.now).lines p.0) }
+    ensures rest { IfOk result (λ p. p.1.now ≡ (section_at text.now).rest) }
+    ensures within { IfOk result (λ p. length p.1.now ≤ length text.now) }
+    ensures refused { IfErr result (λ fault. IfSome (refusal_by fault) (IsBadByteOf (section_at text.now).lines)) }
+{
+    let mut rows = Rows {
+        count: 0,
+        columns: 0,
+        cells: Vec::new(alloc),
+    };
+    let mut rest = text;
+    loop {
+        let (line, after) = next_line(rest);
+        rest = after;
+        let Some(line) = line else {
+            return Ok((rows, rest));
+        };
+        match read_row(line, rows.count, &mut rows.cells) {
+            Ok(None) => {}
+            Ok(Some(cell)) => return Err(RegionFault::BadByte(cell)),
+            Err(_) => return Err(RegionFault::OutOfMemory),
+        }
+        rows.count += 1;
+        rows.columns = rows.columns.max(line.len() as u32);
+    }
+}

@@ -1,0 +1,140 @@
+//! Region texts, and each way of being refused.
+
+ghost use Rattle.std.specs.Prelude.{◌≤◌, ◌^◌, length};
+
+use crate::{Region, RegionFault, read_region, rest_is_empty};
+use std::alloc::{AllocError, Global};
+use tl_lattice::{Cell, Kind};
+
+fn fault_of(alloc: Global, text: &[u8]) -> Option<RegionFault>
+    requires { length text.now ≤ 2 ^ 22 }
+{
+    read_region(alloc, text).err()
+}
+
+#[test]
+fn a_region_has_its_cells_in_raster_order(rt: HostRuntime) {
+    let text = b"triangle  \r\n.#\r\n###\r\n \r\n\r\nrest".as_slice();
+    let read = read_region(rt.alloc(), text);
+    assert!(rt; read.is_ok());
+    if let Ok((region, taken)) = read {
+        assert_eq!(rt; taken, text.len() - 4);
+        assert_eq!(rt; region.kind(), Kind::Triangle);
+        assert_eq!(rt; region.rows(), 3);
+        assert_eq!(rt; region.columns(), 3);
+        assert_eq!(rt; region.cell_count(), 4);
+        let wanted = [(0u32, 1u32), (1, 0), (1, 1), (1, 2)];
+        for (i, (r, c)) in wanted.into_iter().enumerate() {
+            if (i as u32) < region.cell_count() {
+                assert_eq!(rt; region.cell(i as u32), Cell { r, c });
+            }
+        }
+        for r in 0..5u32 {
+            for c in 0..5u32 {
+                assert_eq!(rt;
+                    region.has(Cell { r, c }),
+                    wanted.contains(&(r, c)),
+                    "{r} {c}"
+                );
+            }
+        }
+    }
+}
+
+#[test]
+fn each_text_has_its_first_fault(rt: HostRuntime) {
+    let cases: [(&[u8], RegionFault); 16] = [
+        (b"", RegionFault::BadHeader),
+        (b"\nsquare\n##\n", RegionFault::BadHeader),
+        (b"Square\n##\n", RegionFault::BadHeader),
+        (b"square.\n##\n", RegionFault::BadHeader),
+        (b"square\t\n##\n", RegionFault::BadHeader),
+        (b"square\r\r\n##\n", RegionFault::BadHeader),
+        (b" square\n##\n", RegionFault::BadHeader),
+        (b"square", RegionFault::Empty),
+        (b"square\n..\n \n", RegionFault::Empty),
+        (b"square\n#x\n", RegionFault::BadByte(Cell { r: 0, c: 1 })),
+        (
+            b"square\n#.\n.x\nx\n",
+            RegionFault::BadByte(Cell { r: 1, c: 1 }),
+        ),
+        (
+            b"square\n##x\n#x\n",
+            RegionFault::BadByte(Cell { r: 0, c: 2 }),
+        ),
+        (b"square\n#\r#\n", RegionFault::BadByte(Cell { r: 0, c: 1 })),
+        (
+            b"square\n#\r\r\n",
+            RegionFault::BadByte(Cell { r: 0, c: 1 }),
+        ),
+        (
+            b"triangle\n#\n\t\n",
+            RegionFault::BadByte(Cell { r: 1, c: 0 }),
+        ),
+        (b"triangle\n\n##\n", RegionFault::Empty),
+    ];
+    for (text, fault) in cases {
+        if text.len() < 100 {
+            assert_eq!(rt; fault_of(rt.alloc(), text), Some(fault), "{text:?}");
+        }
+    }
+}
+
+fn long_text(
+    alloc: Global,
+    columns: usize,
+    rows: usize,
+    last: &[u8],
+) -> Result<Vec<u8>, AllocError> {
+    let mut text = Vec::from_slice(alloc, b"square\n")?;
+    for _ in 0..rows {
+        for _ in 0..columns {
+            text.push(b'#')?;
+        }
+        text.push(b'\n')?;
+    }
+    text.extend_from_slice(last)?;
+    Ok(text)
+}
+
+#[test]
+fn a_region_has_at_most_512_rows_and_columns(rt: HostRuntime) -> Result<(), AllocError> {
+    let large = Some(RegionFault::TooLarge);
+    let cases: [(usize, usize, &[u8], Option<RegionFault>); 8] = [
+        (512, 1, b"", None),
+        (513, 1, b"", large),
+        (1, 512, b"", None),
+        (1, 513, b"", large),
+        (1, 512, b".\n", large),
+        (512, 512, b"", None),
+        (
+            513,
+            1,
+            b".x",
+            Some(RegionFault::BadByte(Cell { r: 1, c: 1 })),
+        ),
+        (
+            1,
+            700,
+            b"x",
+            Some(RegionFault::BadByte(Cell { r: 700, c: 0 })),
+        ),
+    ];
+    for (columns, rows, last, fault) in cases {
+        let text = long_text(rt.alloc(), columns, rows, last)?;
+        if text.len() <= 4194304 {
+            assert_eq!(rt;
+                fault_of(rt.alloc(), text.as_slice()),
+                fault,
+                "{columns} {rows}"
+            );
+        }
+    }
+    Ok(())
+}
+
+#[test]
+fn only_line_ends_may_be_left(rt: HostRuntime) {
+    assert!(rt; rest_is_empty(b"\r\n\n"));
+    assert!(rt; !rest_is_empty(b"\n#"));
+}
