@@ -3,6 +3,8 @@ pub mod Joined
 pub mod Neighbours
 pub mod Decide
 pub mod Sublists
+pub mod Ordered
+pub mod Partners
 pub mod Lines
 pub mod Raster
 pub mod RegionTexts

@@ -1,6 +1,6 @@
 -- Tiles and tilings.
-use Rattle.std.specs.Prelude.{Bool, ◌&&◌, ◌||◌, ◌==◌, List, map, filter, flat_map, count_by, find, Option, option_map, if◌then◌else◌, IsTrue}
-use Rattle.std.specs.List.{list_any, list_all}
+use Rattle.std.specs.Prelude.{Bool, ◌&&◌, ◌||◌, ◌==◌, List, map, filter, flat_map, count_by, find, Option, Some, None, option_map, if◌then◌else◌, IsTrue}
+use Rattle.std.specs.List.{list_any, list_all, filter_map}
 use Rattle.tl_definitions.specs.declared.Cell.{Cell}
 use Rattle.tl_definitions.specs.declared.Tile.{Tile}
 use Rattle.tl_definitions.specs.Lattice.{cell_eq, cell_lt, neighbours, are_neighbours}
@@ -49,6 +49,15 @@ other_cell t a = if cell_eq t.first a then t.second else t.first
 
 abbrev pub partner : List Tile → Cell → Option Cell
 partner A a = option_map (λ t. other_cell t a) (find (λ t. covers t a) A)
+
+-- the tile of a cell and its partner, where the partner comes later in raster order
+abbrev pub later_tile : Cell → Option Cell → Option Tile
+later_tile a None = None
+later_tile a (Some b) = if cell_lt a b then Some (record { first = a; second = b }) else None
+
+-- the tiles of a choice of partners, ascending
+abbrev pub tiles_by : (Cell → Option Cell) → List Cell → List Tile
+tiles_by f cells = filter_map (λ a. later_tile a (f a)) cells
 
 -- a region with a tiling of it, as contracts see what holds both
 pub record Tiled : Type 0 where

@@ -3,6 +3,7 @@
 
 mod fault;
 mod flags;
+mod grid;
 mod header;
 mod reading;
 mod region;

@@ -3,6 +3,7 @@
 ghost use Rattle.std.specs.Prelude.{◌≡◌, ◌≤◌, ◌^◌, length, IfOk, IfErr, IfSome};
 ghost use Rattle.tl_definitions.specs.Input.{first_section, taken};
 ghost use Rattle.tl_lines.specs.Lines.{section_at};
+ghost use Rattle.tl_region.specs.Grid.{IsKept};
 ghost use Rattle.tl_region.specs.Refusals.{refusal_by};
 ghost use Rattle.tl_definitions.specs.Accepted.{IsPlaced};
 ghost use Rattle.tl_region.specs.Rows.{region_by, HasAllowedSize, HasRefusedSize};
@@ -10,6 +11,7 @@ ghost use Rattle.tl_region.specs.Texts.{IsReadableText, IsUnreadableText};
 
 use crate::fault::RegionFault;
 use crate::flags::flags_of;
+use crate::grid::Grid;
 use crate::header::kind_of;
 use crate::region::Region;
 use crate::rows::{Rows, read_rows};
@@ -20,10 +22,11 @@ use tl_lines::cut_line;
 /// The greatest number of rows, and of columns.
 const LIMIT: u32 = 512;
 
-// The region of rows that were read, where it isn't too large or empty.
-fn region_from(alloc: Global, kind: Kind, rows: Rows) -> Result<Region, RegionFault>
+// The cells of rows that were read, where they aren't too many or none.
+fn grid_from(alloc: Global, kind: Kind, rows: Rows) -> Result<Grid, RegionFault>
     requires { IsPlaced (region_by kind rows) }
     ensures region { IfOk result (λ R. (R ≡ region_by kind rows) × HasAllowedSize R) }
+    ensures kept { IfOk result IsKept }
     ensures refused { IfErr result (λ fault. IfSome (refusal_by fault) (HasRefusedSize (region_by kind rows))) }
 {
     if rows.count > LIMIT || rows.columns > LIMIT {
@@ -35,7 +38,7 @@ fn region_from(alloc: Global, kind: Kind, rows: Rows) -> Result<Region, RegionFa
     let Ok(flags) = flags_of(alloc, rows.count, rows.columns, rows.cells.as_slice()) else {
         return Err(RegionFault::OutOfMemory);
     };
-    Ok(Region::with_flags(kind, rows.count, rows.columns, rows.cells, flags))
+    Ok(Grid::with_flags(kind, rows.count, rows.columns, rows.cells, flags))
 }
 
 /// Reads the region of the first section, and tells the number of bytes taken, the closing empty line
@@ -60,6 +63,6 @@ pub fn read_region(alloc: Global, bytes: &[u8]) -> Result<(Region, usize), Regio
         return Err(RegionFault::BadHeader);
     };
     let (rows, rest) = read_rows(alloc, text)?;
-    let region = region_from(alloc, kind, rows)?;
-    Ok((region, bytes.len() - rest.len()))
+    let grid = grid_from(alloc, kind, rows)?;
+    Ok((Region::of(grid), bytes.len() - rest.len()))
 }

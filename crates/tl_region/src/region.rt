@@ -4,59 +4,41 @@ ghost use Rattle.std.specs.Prelude.{◌≡◌, ◌<◌, length, slice_get};
 ghost use Rattle.tl_definitions.specs.Region.{has};
 ghost use Rattle.tl_region.specs.Grid.{IsKept};
 
+use crate::grid::Grid;
 use std::marker::Model;
 use tl_lattice::{Cell, Kind};
 
 /// Finitely many cells of one lattice: at least one, in at most 512 rows and 512 columns.
 #[derive(Drop)]
 pub struct Region {
-    kind: Kind,
-    rows: u32,
-    columns: u32,
-    inside: Vec<bool>,
-    cells: Vec<Cell>,
+    grid: Grid,
 }
 
 impl Model for Region {
     ghost use Rattle.tl_definitions.specs.Region as shape;
-    ghost use Rattle.tl_region.specs.Grid.{IsKept, AreFlagsOf};
+    ghost use Rattle.tl_region.specs.Grid.{IsKept};
 
     ghost Value = { shape.Region };
 
-    ghost view = { λ s. record { kind = s.kind; rows = s.rows; columns = s.columns; cells = s.cells.items } };
+    ghost view = { λ s. s.grid };
 
-    ghost invariant = { λ s. IsKept (record { kind = s.kind; rows = s.rows; columns = s.columns; cells = s.cells.items }) × AreFlagsOf s.rows s.columns s.cells.items s.inside.items };
+    ghost invariant = { λ s. IsKept s.grid };
 }
 
 impl Region {
-    ghost use Rattle.tl_region.specs.Grid.{AreFlagsOf};
-
-    /// The region of these cells, with a flag for each place.
-    pub(crate) fn with_flags(
-        kind: Kind,
-        rows: u32,
-        columns: u32,
-        cells: Vec<Cell>,
-        inside: Vec<bool>,
-    ) -> Region
-        requires kept { IsKept (record { kind = kind; rows = rows; columns = columns; cells = cells.items }) }
-        requires flags { AreFlagsOf rows columns cells.items inside.items }
-        ensures { result ≡ record { kind = kind; rows = rows; columns = columns; cells = cells.items } }
+    /// The region of these cells.
+    pub(crate) fn of(grid: Grid) -> Region
+        requires { IsKept grid }
+        ensures { result ≡ grid }
     {
-        Region {
-            kind,
-            rows,
-            columns,
-            inside,
-            cells,
-        }
+        Region { grid }
     }
 
     /// The lattice of the region.
     pub fn kind(&self) -> Kind
         ensures { result ≡ self.now.kind }
     {
-        self.kind
+        self.grid.kind()
     }
 
     /// The number of rows of the region's text.
@@ -64,7 +46,7 @@ impl Region {
         ensures rows { result ≡ self.now.rows }
         ensures kept { IsKept self.now }
     {
-        self.rows
+        self.grid.rows()
     }
 
     /// The number of columns of the region's text: the greatest number of bytes in one of its rows.
@@ -72,7 +54,7 @@ impl Region {
         ensures columns { result ≡ self.now.columns }
         ensures kept { IsKept self.now }
     {
-        self.columns
+        self.grid.columns()
     }
 
     /// The number of cells.
@@ -80,7 +62,7 @@ impl Region {
         ensures count { result ≡ length self.now.cells }
         ensures kept { IsKept self.now }
     {
-        self.cells.len() as u32
+        self.grid.cell_count()
     }
 
     /// The cell of this number, in raster order from 0.
@@ -88,17 +70,13 @@ impl Region {
         requires { i < length self.now.cells }
         ensures { slice_get self.now.cells i ≡ Some result }
     {
-        self.cells[i as usize]
+        self.grid.cell(i)
     }
 
     /// Whether the cell is one of the region.
     pub fn has(&self, cell: Cell) -> bool
         ensures { result ≡ has self.now cell }
     {
-        if cell.r < self.rows && cell.c < self.columns {
-            self.inside[cell.r as usize * self.columns as usize + cell.c as usize]
-        } else {
-            false
-        }
+        self.grid.has(cell)
     }
 }

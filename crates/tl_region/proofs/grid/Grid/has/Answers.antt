@@ -1,7 +1,7 @@
 use Rattle.std.proofs.Common.{sym, ◌<◌, arith}
 use Rattle.tl_region.proofs.GridLemmas.{has-outside}
-use Rattle.tl_region.proofs.region.Region.has.Goals as goal
-use Rattle.tl_region.proofs.region.Region.has.Goals.{else-cell-self-via-then-cell-self+else-cell-self-2, else-cell-self-via-else-cell-self}
+use Rattle.tl_region.proofs.grid.Grid.has.Goals as goal
+use Rattle.tl_region.proofs.grid.Grid.has.Goals.{else-cell-self-via-then-cell-self+else-cell-self-2, else-cell-self-via-else-cell-self}
 
 off : (c : goal.Joined-else-cell-self) → ¬ ((c.args.cell.r < c.self.inside.rows) × (c.args.cell.c < c.self.inside.columns))
 off c p =

@@ -1,6 +1,6 @@
 use Rattle.std.proofs.Common.{arith}
 use Rattle.tl_region.proofs.GridLemmas.{few_cells}
-use Rattle.tl_region.proofs.region.Region.cell_count.Goals as goal
+use Rattle.tl_region.proofs.grid.Grid.cell_count.Goals as goal
 
 pub overflow_cast-result : goal.overflow_cast-result
 overflow_cast-result c =
