@@ -1,4 +1,8 @@
-//! Coupling from the past over any lawful chain, by doubling the start.
+//! Coupling from the past over any monotone chain.
+//!
+//! A chain carries each of its states from a start in the past, time -T, to time 0, by the same random words in
+//! every start. `draw` looks for the first of the starts 1, 2, 4, .. from which all lawful states are carried to
+//! one. It follows two states only, the chain's low and high end: every other lawful state stays between them.
 #![tactic(auto)]
 
 ghost use Rattle.std.specs.Prelude.{◌≡◌, ℕ, ◌^◌, ◌≤◌, ◌↔◌, IsTrue};
@@ -6,6 +10,7 @@ ghost use Rattle.tl_definitions.specs.Chain.{
   ChainMeaning,
   IsLawfulChain,
   SameMeaning,
+  ChainGathers,
   IsChainStart,
   IsLateChain,
   AllCarriedTo,
@@ -14,7 +19,15 @@ ghost use Rattle.tl_definitions.specs.Chain.{
 #[cfg(test)]
 mod walk;
 
-/// A monotone chain, run from the past: for each start it carries every state to a state at time 0.
+/// A monotone chain.
+///
+/// Its one ghost member `meaning` says which states belong to it, which of these are lawful, the relation "below"
+/// on them, the low and the high end, and to which state a state is carried from a start. Whoever writes a chain
+/// proves `laws` of these once: each start from 1 to 2^30 carries lawful states to lawful ones and keeps what is
+/// below what, two lawful states below each other are the same, and the two ends are lawful, with every lawful
+/// state between them.
+///
+/// No call changes a meaning of the chain, and after each both states belong to it as before.
 pub trait Chain {
     type State;
 
@@ -54,34 +67,58 @@ pub trait Chain {
     ghost laws: { (chain : Self) → IsLawfulChain (meaning chain) };
 }
 
-/// What a draw came to: the start from which all lawful states are carried to one, or none up to the bound.
+/// What a draw came to: its start, or none up to its bound.
 #[derive(Clone, Copy, PartialEq, Eq, Debug)]
 pub enum Drawn {
     At(u64),
     Late,
 }
 
-/// Looks for the least of the starts 1, 2, 4, .., `2^bound` from which all lawful states of the chain are
-/// carried to one state, and leaves that state in both `low` and `high`.
-pub fn draw<C: Chain>(chain: &mut C, low: &mut C::State, high: &mut C::State, bound: u32) -> Drawn
-    requires bound_in_range { bound ≤ 30 }
+/// Carries the two ends from the start `from` to time 0, and tells whether the start gathers.
+fn gathers<C: Chain>(chain: &mut C, low: &mut C::State, high: &mut C::State, from: u64) -> bool
+    requires at_least_1 { 1 ≤ from }
+    requires in_range { from ≤ 2 ^ 30 }
     requires low_belongs { (C.meaning chain.old).belongs low.old }
     requires high_belongs { (C.meaning chain.old).belongs high.old }
-    ensures at { (T : ℕ) → (result ≡ Drawn.At T) ↔ IsChainStart (C.meaning chain.old) bound T }
-    ensures late { (result ≡ Drawn.Late) ↔ IsLateChain (C.meaning chain.old) bound }
-    ensures low_gathered { (T : ℕ) → result ≡ Drawn.At T → AllCarriedTo (C.meaning chain.old) T low.new }
-    ensures high_gathered { (T : ℕ) → result ≡ Drawn.At T → AllCarriedTo (C.meaning chain.old) T high.new }
+    ensures gathers { IsTrue result ↔ ChainGathers (C.meaning chain.old) from }
+    ensures low_gathered { IsTrue result → AllCarriedTo (C.meaning chain.old) from low.new }
+    ensures high_gathered { IsTrue result → AllCarriedTo (C.meaning chain.old) from high.new }
     ensures low_lawful { (C.meaning chain.old).lawful low.new }
     ensures high_lawful { (C.meaning chain.old).lawful high.new }
     ensures low_belongs { (C.meaning chain.old).belongs low.new }
     ensures high_belongs { (C.meaning chain.old).belongs high.new }
     ensures kept { SameMeaning (C.meaning chain.old) (C.meaning chain.new) }
 {
+    chain.ends(low, high);
+    chain.stretch(low, high, from);
+    chain.same(low, high)
+}
+
+/// Draws from the chain: looks for the least of the starts 1, 2, 4, .., `2^bound` from which all lawful states are
+/// carried to one state.
+///
+/// `At` gives this start, and `low` and `high` then both hold that state. `Late` comes exactly where there is no such
+/// start, and the two are then some lawful states. The chain may draw again after either.
+pub fn draw<C: Chain>(chain: &mut C, low: &mut C::State, high: &mut C::State, bound: u32) -> Drawn
+    requires bound_in_range { bound ≤ 30 }
+    requires low_belongs { (C.meaning chain.old).belongs low.old }
+    requires high_belongs { (C.meaning chain.old).belongs high.old }
+    ensures at { (T : ℕ) → (result ≡ Drawn.At T) ↔ IsChainStart (C.meaning chain.old) bound T }
+    ensures late { (result ≡ Drawn.Late) ↔ IsLateChain (C.meaning chain.old) bound }
+
+    // What the two states are then. From the start all lawful states are carried to either.
+    ensures low_gathered { (T : ℕ) → result ≡ Drawn.At T → AllCarriedTo (C.meaning chain.old) T low.new }
+    ensures high_gathered { (T : ℕ) → result ≡ Drawn.At T → AllCarriedTo (C.meaning chain.old) T high.new }
+    ensures low_lawful { (C.meaning chain.old).lawful low.new }
+    ensures high_lawful { (C.meaning chain.old).lawful high.new }
+    ensures low_belongs { (C.meaning chain.old).belongs low.new }
+    ensures high_belongs { (C.meaning chain.old).belongs high.new }
+
+    ensures kept { SameMeaning (C.meaning chain.old) (C.meaning chain.new) }
+{
     for exponent in 0..=bound {
         let from = 1 << exponent;
-        chain.ends(low, high);
-        chain.stretch(low, high, from);
-        if chain.same(low, high) {
+        if gathers(chain, low, high, from) {
             return Drawn::At(from);
         }
     }
