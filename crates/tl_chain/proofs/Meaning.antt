@@ -1,6 +1,6 @@
 -- Chains that mean the same.
-use Rattle.std.proofs.Common.{◌≡◌, ℕ, refl, sym, ◌∙◌, subst}
-use Rattle.tl_definitions.specs.Chain.{ChainMeaning, SameMeaning, ChainGathers, AllCarriedTo}
+use Rattle.std.proofs.Common.{ℕ, refl, sym, ◌∙◌}
+use Rattle.tl_definitions.specs.Chain.{ChainMeaning, SameMeaning, ChainGathers}
 
 pub SameMeaning-refl : {S : Type 0} (M : ChainMeaning S) → SameMeaning M M
 SameMeaning-refl M = record {
@@ -32,15 +32,7 @@ SameMeaning-trans L M N p q = record {
   carried = λ s from. p.carried s from ∙ q.carried s from;
 }
 
--- A chain means the same where what its meaning is made of is the same: for a call that changes the rest of it.
-pub SameMeaning-ap : {S D : Type 0} (meaning : D → ChainMeaning S) (a b : D) → a ≡ b → SameMeaning (meaning a) (meaning b)
-SameMeaning-ap meaning a b e = subst (λ d. SameMeaning (meaning a) (meaning d)) e (SameMeaning-refl (meaning a))
-
 -- the same starts gather
 pub ChainGathers-same : {S : Type 0} (M N : ChainMeaning S) (from : ℕ) → SameMeaning M N → ChainGathers N from → ChainGathers M from
 ChainGathers-same M N from p all s t h k =
     p.carried s from ∙ all s t ((p.lawful s).0 h) ((p.lawful t).0 k) ∙ sym (p.carried t from)
-
--- and to the same state
-pub AllCarriedTo-same : {S : Type 0} (M N : ChainMeaning S) (from : ℕ) (s : S) → SameMeaning M N → AllCarriedTo N from s → AllCarriedTo M from s
-AllCarriedTo-same M N from s p all t h = p.carried t from ∙ all t ((p.lawful t).0 h)
