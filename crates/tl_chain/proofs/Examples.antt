@@ -1,7 +1,7 @@
 -- What meets the definitions of chains, and what near it doesn't.
 use Rattle.std.proofs.Common.{◌≡◌, ℕ, zero, suc, ◌^◌, ◌-◌, ◌+◌, ◌≤◌, ◌<◌, Bool, true, false, List, [], ◌∷◌, refl, arith}
 use Rattle.std.specs.Prelude.{⊤}
-use Rattle.tl_definitions.specs.Chain.{ChainMeaning, IsLawfulChain, SameMeaning, ChainGathers, IsChainStart, IsLateChain, AllCarriedTo}
+use Rattle.tl_definitions.specs.Chain.{ChainMeaning, IsLawfulChain, SameMeaning, ChainGathers, IsChainStart, IsChainLate, AllCarriedTo}
 use Rattle.tl_chain.specs.Walk.{walk, walked}
 use Rattle.tl_chain.proofs.Ends.{ChainGathers-one}
 use Rattle.tl_chain.proofs.Meaning.{SameMeaning-refl}
@@ -90,12 +90,12 @@ start_4 bound high = record {
     below_two (suc zero) h = apart_from_2
     below_two (suc (suc k)) h = absurd (omega (arith, h))
 
-late_at_1 : IsLateChain (walk 2 ups) 1
+late_at_1 : IsChainLate (walk 2 ups) 1
 late_at_1 zero h = apart_from_1
 late_at_1 (suc zero) h = apart_from_2
 late_at_1 (suc (suc k)) h = absurd (omega (arith, h))
 
-not_late_at_2 : ¬ IsLateChain (walk 2 ups) 2
+not_late_at_2 : ¬ IsChainLate (walk 2 ups) 2
 not_late_at_2 none = none 2 (omega arith) (ChainGathers-one (walk 2 ups) 4 1 from_4)
 
 -- a later start is not the start, and none is past the bound

@@ -12,25 +12,21 @@ ghost use Rattle.tl_definitions.specs.Chain.{
   SameMeaning,
   ChainGathers,
   IsChainStart,
-  IsLateChain,
+  IsChainLate,
   AllCarriedTo,
 };
 
 #[cfg(test)]
 mod walk;
 
-/// A monotone chain.
+/// A monotone chain. `docs/OWN_CHAIN.md` shows how to write one.
 ///
-/// Its one ghost member `meaning` says which states belong to it, which of these are lawful, the relation "below"
-/// on them, the low and the high end, and to which state a state is carried from a start. Whoever writes a chain
-/// proves `laws` of these once: each start from 1 to 2^30 carries lawful states to lawful ones and keeps what is
-/// below what, two lawful states below each other are the same, and the two ends are lawful, with every lawful
-/// state between them.
-///
-/// No call changes a meaning of the chain, and after each both states belong to it as before.
+/// No call changes what the chain means, and the two states belong to it before and after each.
 pub trait Chain {
     type State;
 
+    /// Which states belong to the chain and which of these are lawful, which state is below which, the two ends,
+    /// and to which state a state is carried from a start.
     ghost meaning: { Self → ChainMeaning Self.State };
 
     /// Puts the two ends into `low` and `high`.
@@ -64,6 +60,8 @@ pub trait Chain {
         requires high_belongs { (meaning self.now).belongs high.now }
         ensures { IsTrue result ↔ (low.now ≡ high.now) };
 
+    /// From each start from 1 to 2^30 lawful states are carried to lawful ones, and what is below what stays so. Two
+    /// lawful states below each other are the same. The two ends are lawful, and every lawful state is between them.
     ghost laws: { (chain : Self) → IsLawfulChain (meaning chain) };
 }
 
@@ -104,7 +102,7 @@ pub fn draw<C: Chain>(chain: &mut C, low: &mut C::State, high: &mut C::State, bo
     requires low_belongs { (C.meaning chain.old).belongs low.old }
     requires high_belongs { (C.meaning chain.old).belongs high.old }
     ensures at { (T : ℕ) → (result ≡ Drawn.At T) ↔ IsChainStart (C.meaning chain.old) bound T }
-    ensures late { (result ≡ Drawn.Late) ↔ IsLateChain (C.meaning chain.old) bound }
+    ensures late { (result ≡ Drawn.Late) ↔ IsChainLate (C.meaning chain.old) bound }
 
     // What the two states are then. From the start all lawful states are carried to either.
     ensures low_gathered { (T : ℕ) → result ≡ Drawn.At T → AllCarriedTo (C.meaning chain.old) T low.new }
