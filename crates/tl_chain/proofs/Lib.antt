@@ -1,0 +1,4 @@
+pub mod Meaning
+pub mod Ends
+pub mod Search
+mod Examples
