@@ -1,4 +1,6 @@
-use Rattle.std.proofs.Common.{sym}
+use Rattle.std.proofs.Common.{sym, subst}
+use Rattle.tl_definitions.specs.Input.{first_section}
+use Rattle.tl_region.specs.Texts.{IsReadableText}
 use Rattle.std.proofs.lemmas.Result.{err_from_is_err_and}
 use Rattle.tl_region.specs.Rows.{IsBadByteOf, HasRefusedSize, region_by}
 use Rattle.tl_lines.specs.Lines.{section_at}
@@ -30,5 +32,6 @@ pub returns-clause-region : goal.returns-clause-region
 returns-clause-region c =
     let lines = (section_at c.cut_line.result.1.now).lines in
     let named = c.in_ok-grid.ensures.region in
-    readable_section c.args.bytes.now _ c.cut_line.result.1.now c.in_ok-grid.region c.cut_line.ensures.first
-    (readable c.cut_line.result.0.now lines c.in-Some.kind c.in_ok-rows.rows c.in_ok-grid.region (sym c.in-Some.ensures) c.in_ok-rows.ensures.rows named.0 named.1)
+    subst (IsReadableText (first_section c.args.bytes.now).lines) (sym c.of.ensures)
+    (readable_section c.args.bytes.now _ c.cut_line.result.1.now c.in_ok-grid.grid c.cut_line.ensures.first
+    (readable c.cut_line.result.0.now lines c.in-Some.kind c.in_ok-rows.rows c.in_ok-grid.grid (sym c.in-Some.ensures) c.in_ok-rows.ensures.rows named.0 named.1))
