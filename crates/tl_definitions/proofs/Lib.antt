@@ -5,6 +5,7 @@ pub mod Decide
 pub mod Sublists
 pub mod Ordered
 pub mod Partners
+pub mod Drawings
 pub mod Lines
 pub mod Raster
 pub mod RegionTexts

@@ -1,15 +1,15 @@
 -- The region and the first bad byte of a text, row by row.
-use Rattle.std.proofs.Common.{◌≡◌, ℕ, zero, suc, ◌+◌, ◌-◌, ◌<◌, ◌≤◌, Bool, true, false, not, ◌||◌, ◌&&◌, List, [], ◌∷◌, ◌++◌, map, length, cond, Option, Some, None, refl, sym, ◌∙◌, ap, subst, arith}
-use Rattle.std.specs.Prelude.{filter, flat_map, find, slice_get, fold, max, slice_index_or}
-use Rattle.std.specs.List.{range_with_len, list_any}
+use Rattle.std.proofs.Common.{◌≡◌, ℕ, zero, suc, ◌+◌, ◌<◌, ◌≤◌, Bool, true, false, not, ◌||◌, ◌&&◌, List, [], ◌∷◌, map, length, Option, Some, None, refl, sym, ◌∙◌, ap, arith}
+use Rattle.std.specs.Prelude.{filter, slice_get, fold, max, slice_index_or}
+use Rattle.std.specs.List.{list_any}
 use Rattle.std.proofs.lemmas.Bool.{lt-ltb}
-use Rattle.std.proofs.lemmas.Option.{slice_get_past, slice_get_within, get_or_from_slice_get}
+use Rattle.std.proofs.lemmas.Option.{slice_get_past, get_or_from_slice_get}
 use Rattle.tl_definitions.specs.declared.Kind.{Kind}
 use Rattle.tl_definitions.specs.declared.Cell.{Cell}
-use Rattle.tl_definitions.specs.Lattice.{cell, cell_eq}
+use Rattle.tl_definitions.specs.Lattice.{cell_eq}
 use Rattle.tl_definitions.specs.Accepted.{IsPlaced}
 use Rattle.tl_definitions.proofs.Regions.{any-filter-places}
-use Rattle.tl_definitions.specs.Region.{places, upto}
+use Rattle.tl_definitions.specs.Region.{places}
 use Rattle.tl_definitions.specs.RegionText.{byte_at, is_byte, is_blank, longest, first_bad_byte, region_of}
 use Rattle.tl_definitions.specs.Marks.{row_part, marks, text_marks, is_hash, is_bad}
 use Rattle.tl_definitions.proofs.Raster.{find-filter, filter-row_cut, filter-row_marks, filter-rows_marks, filter-places, filter-places_same}

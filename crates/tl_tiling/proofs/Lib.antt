@@ -1,0 +1,5 @@
+mod LineLemmas
+mod ReadLemmas
+mod MatchLemmas
+mod DrawLemmas
+mod PrintLemmas
