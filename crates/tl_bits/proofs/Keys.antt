@@ -3,9 +3,9 @@ use Rattle.std.proofs.Common.{◌≡◌, ℕ, ◌+◌, ◌*◌, ◌/◌, ◌%◌
 use Rattle.std.specs.Prelude.{replicate}
 use Rattle.std.specs.Int.{to_le_bytes}
 use Rattle.rand_core.specs.Steps.{u32_at}
-use Rattle.rand_chacha.specs.ChaCha.{ChaCha, key_of}
+use Rattle.rand_chacha.specs.ChaCha.{key_of}
 use Rattle.tl_bits.specs.Bits.{key}
-use Rattle.tl_bits.specs.Sources.{StandsAt, seed_of_key}
+use Rattle.tl_bits.specs.Sources.{seed_of_key}
 
 low_word : (n : ℕ) → n % 256 + n / 2 ^ 8 % 256 * 2 ^ 8 + n / 2 ^ 16 % 256 * 2 ^ 16 + n / 2 ^ 24 % 256 * 2 ^ 24 ≡ n % 2 ^ 32
 low_word n = omega arith
@@ -21,10 +21,3 @@ key_of-seed seed fits = cc (low_word seed, high_word seed fits)
 
 pub seed_of_key-key : (seed : ℕ) → seed_of_key (key seed) ≡ seed
 seed_of_key-key seed = omega arith
-
--- a generator over a seed's key, at the stream's beginning
-pub stands_at_start : (g : ChaCha) (seed : ℕ) → g.key ≡ key seed → g.word_pos ≡ 0 → StandsAt g 0
-stands_at_start g seed is at = record {
-  key_is = rw (is, seed_of_key-key);
-  place_is = at;
-}

@@ -1,7 +1,6 @@
 -- What contracts see of the sources of bits.
-use Rattle.std.specs.Prelude.{ℕ, ◌*◌, ◌+◌, ◌^◌, ◌≡◌, List, slice_index}
-use Rattle.rand_chacha.specs.ChaCha.{ChaCha}
-use Rattle.tl_bits.specs.Bits.{key, word, place}
+use Rattle.std.specs.Prelude.{ℕ, ◌+◌, ◌*◌, ◌^◌, List, slice_index}
+use Rattle.tl_bits.specs.Bits.{word, place}
 
 -- the words of one seed and one sample number
 pub record Stream : Type 0 where
@@ -30,8 +29,3 @@ listed_word b t w = slice_index b.list (place b.words t w)
 -- the seed whose key this is
 abbrev pub seed_of_key : List ℕ → ℕ
 seed_of_key k = slice_index k 0 + slice_index k 1 * 2 ^ 32
-
--- a generator that stands at the word of this number, over a seed's key
-pub record StandsAt (g : ChaCha) (next : ℕ) : Type 0 where
-  pub key_is : g.key ≡ key (seed_of_key g.key)
-  pub place_is : g.word_pos ≡ next

@@ -9,6 +9,8 @@ ghost use Rattle.tl_bits.specs.Bits.{place};
 
 mod dealt;
 mod stream;
+#[cfg(test)]
+mod tests;
 
 pub use dealt::{Listed, Numbered};
 
