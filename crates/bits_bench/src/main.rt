@@ -1,13 +1,13 @@
 // Times numbered words, read in order and time by time backwards, against the bare generator below them.
 //
-// Usage: bits_bench WORDS TIMES TURNS, for WORDS words to each of the times -1 to -TIMES. Each way of reading
-// is timed TURNS times in turn, and the least processor time counts. Standard output has what was read,
-// standard error the times.
+// Usage: bits_bench WORDS TIMES SLICES, for WORDS words to each of the times -1 to -(TIMES * SLICES). The three
+// take turns at slices of TIMES times, so that whatever else the machine does slows down all three. Standard
+// output has what was read, standard error the processor time.
 #![tactic(auto)]
 
-ghost use Rattle.std.specs.Prelude.{◌≡◌, ℕ, ◌^◌, ◌<◌, ◌≤◌};
+ghost use Rattle.std.specs.Prelude.{◌≡◌, ℕ, ◌+◌, ◌^◌, ◌<◌, ◌≤◌, IfOk};
 
-use anyhow::{Context, Result, bail, ensure};
+use anyhow::{Context, Result, ensure};
 use rand_chacha::ChaCha20Rng;
 use rand_core::SeedableRng;
 use rand_core::utils::NextWord;
@@ -18,65 +18,89 @@ use std::time::{CpuClock, Duration};
 use std::{env, io};
 use tl_bits::{Bits, Numbered};
 
-// What is read: so many words to each of so many times.
+// So many words to each of so many times, which follow time -`before`.
 #[derive(Clone, Copy)]
-struct Load {
+struct Slice {
     words: u32,
+    before: u64,
     times: u64,
     ghost words_fit: { words ≤ 2 ^ 15 },
-    ghost times_fit: { times ≤ 2 ^ 30 },
+    ghost times_fit: { before + times ≤ 2 ^ 30 },
 }
 
-// The exclusive or of the words of the bare generator.
-fn read_bare(load: Load) -> u32 {
-    let mut generator = ChaCha20Rng::from_seed([0; 32]);
+impl Slice {
+    fn new(words: u32, before: u64, times: u64) -> Result<Slice>
+        ensures { IfOk result (λ s. s.words ≡ words) }
+    {
+        ensure!(
+            words <= 1 << 15 && before <= 1 << 30 && times <= (1 << 30) - before,
+            "at most 2^15 words and 2^30 times"
+        );
+        Ok(Slice {
+            words,
+            before,
+            times,
+        })
+    }
+}
+
+// The exclusive or of as many words of the bare generator.
+fn read_bare(generator: &mut ChaCha20Rng, slice: Slice) -> u32 {
     let mut sum = 0;
-    for _ in 0..load.times * u64::from(load.words) {
+    for _ in 0..slice.times * u64::from(slice.words) {
         sum ^= generator.next_word();
     }
     sum
 }
 
-// The same of numbered words, from time -1 on.
-fn read_onwards<B: Bits>(bits: &mut B, load: Load) -> u32
-    requires { B.words bits.old ≡ load.words }
+// The exclusive or of the words of these times, from the latest on.
+fn read_onwards<B: Bits>(bits: &mut B, slice: Slice) -> u32
+    requires { B.words bits.old ≡ slice.words }
+    ensures { B.words bits.new ≡ slice.words }
 {
     let mut sum = 0;
-    'times: for time in 0..load.times {
-        'words: for w in 0..load.words {
-            sum ^= bits.word(time + 1, w);
+    'times: for i in 0..slice.times {
+        'words: for w in 0..slice.words {
+            sum ^= bits.word(slice.before + i + 1, w);
         }
     }
     sum
 }
 
-// The same, down to time -1.
-fn read_backwards<B: Bits>(bits: &mut B, load: Load) -> u32
-    requires { B.words bits.old ≡ load.words }
+// The same, from the earliest on.
+fn read_backwards<B: Bits>(bits: &mut B, slice: Slice) -> u32
+    requires { B.words bits.old ≡ slice.words }
+    ensures { B.words bits.new ≡ slice.words }
 {
     let mut sum = 0;
-    'times: for time in (0..load.times).rev() {
-        'words: for w in 0..load.words {
-            sum ^= bits.word(time + 1, w);
+    'times: for i in (0..slice.times).rev() {
+        'words: for w in 0..slice.words {
+            sum ^= bits.word(slice.before + i + 1, w);
         }
     }
     sum
 }
 
-// The least processor time of a way of reading, and what it read.
+// What a way of reading took, and what it read.
 #[derive(Clone, Copy)]
-struct Best {
+struct Total {
     time: Duration,
     sum: u32,
 }
 
-// One more turn, from a start that was read off the clock.
-fn best_of(rt: &impl CpuClock, best: Option<Best>, start: Duration, sum: u32) -> io::Result<Best> {
-    let time = rt.thread_cpu_time()?.saturating_sub(start);
-    Ok(match best {
-        Some(best) if best.time < time => best,
-        _ => Best { time, sum },
-    })
+impl Total {
+    const NOTHING: Total = Total {
+        time: Duration::ZERO,
+        sum: 0,
+    };
+
+    // A slice that was read since a time of the clock.
+    fn add(&mut self, rt: &impl CpuClock, start: Duration, sum: u32) -> io::Result<()> {
+        let took = rt.thread_cpu_time()?.saturating_sub(start);
+        self.time = self.time.saturating_add(took);
+        self.sum ^= sum;
+        Ok(())
+    }
 }
 
 fn argument<T: FromStr>(args: &mut env::Args, name: &str) -> Result<T>
@@ -92,40 +116,39 @@ fn main(rt: HostRuntime) -> Result<()> {
     args.next();
     let words = argument::<u32>(&mut args, "words")?;
     let times = argument::<u64>(&mut args, "times")?;
-    let turns = argument::<u32>(&mut args, "turns")?;
-    ensure!(
-        words <= 1 << 15 && times <= 1 << 30,
-        "more words than there are"
-    );
-    let load = Load { words, times };
+    let slices = argument::<u32>(&mut args, "slices")?;
 
-    let (mut bare, mut onwards, mut backwards) = (None, None, None);
-    for _ in 0..turns {
+    let mut generator = ChaCha20Rng::from_seed([0; 32]);
+    let mut up = Numbered::new(0, 0, words);
+    let mut down = Numbered::new(0, 0, words);
+    let (mut bare, mut onwards, mut backwards) = (Total::NOTHING, Total::NOTHING, Total::NOTHING);
+    for i in 0..slices {
+        let slice = Slice::new(words, u64::from(i).saturating_mul(times), times)?;
         let start = rt.thread_cpu_time()?;
-        bare = Some(best_of(&rt, bare, start, read_bare(load))?);
+        bare.add(&rt, start, read_bare(&mut generator, slice))?;
         let start = rt.thread_cpu_time()?;
-        let mut bits = Numbered::new(0, 0, words);
-        onwards = Some(best_of(&rt, onwards, start, read_onwards(&mut bits, load))?);
+        onwards.add(&rt, start, read_onwards(&mut up, slice))?;
+        let last = u64::from(slices - 1 - i);
+        let slice = Slice::new(words, last.saturating_mul(times), times)?;
         let start = rt.thread_cpu_time()?;
-        let mut bits = Numbered::new(0, 0, words);
-        backwards = Some(best_of(&rt, backwards, start, read_backwards(&mut bits, load))?);
+        backwards.add(&rt, start, read_backwards(&mut down, slice))?;
     }
-    let (Some(bare), Some(onwards), Some(backwards)) = (bare, onwards, backwards) else {
-        bail!("no turn");
-    };
 
     println!(rt;
-        "{words} words to each of {times} times: {:08x} bare, {:08x} onwards, {:08x} backwards",
-        bare.sum, onwards.sum, backwards.sum
+        "{words} words to each of {} times: {:08x} bare, {:08x} onwards, {:08x} backwards",
+        times.saturating_mul(u64::from(slices)),
+        bare.sum,
+        onwards.sum,
+        backwards.sum
     )?;
-    let count = nearest_u64_to_f64(times * u64::from(words));
-    for (name, best) in [
+    let count = nearest_u64_to_f64(times) * f64::from(words) * f64::from(slices);
+    for (name, total) in [
         ("bare", bare),
         ("onwards", onwards),
         ("backwards", backwards),
     ] {
-        let nanoseconds = best.time.as_secs_f64() * 1e9 / count;
-        let ratio = best.time.div_duration_f64(bare.time);
+        let nanoseconds = total.time.as_secs_f64() * 1e9 / count;
+        let ratio = total.time.div_duration_f64(bare.time);
         eprintln!(rt; "{name}: {nanoseconds:.2} ns a word, ratio {ratio:.2}")?;
     }
     Ok(())
