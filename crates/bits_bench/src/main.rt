@@ -1,8 +1,8 @@
 // Times numbered words, read in order and time by time backwards, against the bare generator below them.
 //
 // Usage: bits_bench WORDS TIMES SLICES, for WORDS words to each of the times -1 to -(TIMES * SLICES). The three
-// take turns at slices of TIMES times, so that whatever else the machine does slows down all three. Standard
-// output has what was read, standard error the processor time.
+// take turns at slices of TIMES times. Standard output has what was read, and standard error the processor time:
+// the mean of a word, and the ratio of the quickest slices, which whatever else the machine does hardly changes.
 #![tactic(auto)]
 
 ghost use Rattle.std.specs.Prelude.{◌≡◌, ℕ, ◌+◌, ◌^◌, ◌<◌, ◌≤◌, IfOk};
@@ -81,16 +81,18 @@ fn read_backwards<B: Bits>(bits: &mut B, slice: Slice) -> u32
     sum
 }
 
-// What a way of reading took, and what it read.
+// What a way of reading took over all, and for its quickest slice, and what it read.
 #[derive(Clone, Copy)]
 struct Total {
     time: Duration,
+    least: Duration,
     sum: u32,
 }
 
 impl Total {
     const NOTHING: Total = Total {
         time: Duration::ZERO,
+        least: Duration::MAX,
         sum: 0,
     };
 
@@ -98,6 +100,7 @@ impl Total {
     fn add(&mut self, rt: &impl CpuClock, start: Duration, sum: u32) -> io::Result<()> {
         let took = rt.thread_cpu_time()?.saturating_sub(start);
         self.time = self.time.saturating_add(took);
+        self.least = self.least.min(took);
         self.sum ^= sum;
         Ok(())
     }
@@ -148,7 +151,7 @@ fn main(rt: HostRuntime) -> Result<()> {
         ("backwards", backwards),
     ] {
         let nanoseconds = total.time.as_secs_f64() * 1e9 / count;
-        let ratio = total.time.div_duration_f64(bare.time);
+        let ratio = total.least.div_duration_f64(bare.least);
         eprintln!(rt; "{name}: {nanoseconds:.2} ns a word, ratio {ratio:.2}")?;
     }
     Ok(())

@@ -61,7 +61,8 @@ fn put_block(ring: &mut [u32; 128], number: u64, words: &[u32; 16])
 // the beginning of a block costs nothing, since it computes none until then.
 fn put_blocks(generator: &mut ChaCha20Rng, ring: &mut [u32; 128], number: u64)
     requires { number < 2 ^ 58 }
-    ensures words { PutsWords generator.old.key generator.old.stream ring.old ring.new (16 * number) (16 * number + 64) }
+    ensures words { PutsWords generator.old.key generator.old.stream ring.old ring.new
+        (16 * number) (16 * number + 64) }
     ensures key { generator.new.key ≡ generator.old.key }
     ensures stream { generator.new.stream ≡ generator.old.stream }
 {

@@ -101,8 +101,11 @@ fn a_list_gives_its_words_and_then_0(rt: HostRuntime) -> Result<(), Fail> {
     Ok(())
 }
 
+fn goes_to_a_thread<B: Bits + Send>(_bits: B) {}
+
+// These have no words to a time, as for a region with no inner corner, and are never asked.
 #[test]
-fn a_region_with_no_inner_corner_has_no_words(rt: HostRuntime) {
-    let _unread = Numbered::new(5, 6, 0);
-    let _unread = Listed::new(0, Vec::new(rt.alloc()));
+fn sources_with_no_words_go_to_a_thread(rt: HostRuntime) {
+    goes_to_a_thread(Numbered::new(5, 6, 0));
+    goes_to_a_thread(Listed::new(0, Vec::new(rt.alloc())));
 }
