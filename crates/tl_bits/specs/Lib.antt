@@ -1,0 +1,4 @@
+pub mod Bits
+pub mod Sources
+pub mod Ring
+pub mod WordStream
