@@ -1,0 +1,4 @@
+mod CommandLemmas
+mod CheckLemmas
+mod HearLemmas
+mod RunLemmas
