@@ -4,11 +4,10 @@ use Rattle.std.specs.Prelude.{IfSome, IsSomeAnd, MatchBool, MatchOption, codes}
 use Rattle.tl_definitions.specs.declared.Command.TheVariants.{Check}
 use Rattle.tl_definitions.specs.Region.{Region}
 use Rattle.tl_definitions.specs.Input.{Section, first_section, further_section, rest_is_empty, taken}
-use Rattle.tl_definitions.specs.RegionText.{RegionRefusal}
+use Rattle.tl_definitions.specs.RegionText.{RegionRefusal, IsRegionText, IsRefusedText}
 use Rattle.tl_definitions.specs.Drawing.{DrawingRefusal, drawing_refusal}
 use Rattle.tl_definitions.specs.Texts.{line}
 use Rattle.tl_definitions.proofs.Lines.{drop-first, drop-further}
-use Rattle.tl_region.specs.Texts.{IsReadableText, IsUnreadableText}
 use Rattle.tilings.specs.Answers.{Answer, answer}
 use Rattle.tilings.specs.Refusals.{region_refusal_text}
 use Rattle.tilings.specs.Check.{WithoutExtra, check_refusal, CheckReply}
@@ -46,13 +45,13 @@ check-extra R bytes rest n b a e t r k i is =
     (sym (ap rest_is_empty (sym (rest-further bytes rest n t r)) ∙ sym k ∙ i)) is)
 
 -- a refused region
-pub input-refused : (input : List ℕ) (told : Option RegionRefusal) (a : Answer) → IfSome told (IsUnreadableText (first_section input).lines)
+pub input-refused : (input : List ℕ) (told : Option RegionRefusal) (a : Answer) → IfSome told (IsRefusedText (first_section input).lines)
     → IsSomeAnd told (λ f. a ≡ answer (region_refusal_text f) 3) → InputReply Check input a
 input-refused input None a e p = absurd p
 input-refused input (Some f) a e p = inl (f, e, p)
 
 -- a region, and what follows it
-pub input-region : (input rest : List ℕ) (n : ℕ) (R : Region) (a : Answer) → IsReadableText (first_section input).lines R
+pub input-region : (input rest : List ℕ) (n : ℕ) (R : Region) (a : Answer) → IsRegionText (first_section input).lines R
     → n ≡ taken input (first_section input) → rest ≡ drop n input → CheckReply R (further_section rest) a → InputReply Check input a
 input-region input rest n R a readable t r p =
     let same : rest ≡ (first_section input).rest = r ∙ ap (λ (m : ℕ). drop m input) t ∙ drop-first input in

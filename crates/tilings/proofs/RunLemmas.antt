@@ -20,58 +20,6 @@ use Rattle.tilings.specs.Replies.{InputReply, CommandReply, Reply}
 use Rattle.tilings.specs.Runs.{is_whole, IsRun}
 use Rattle.tilings.specs.Hearings.{Hears, HearsPart}
 
--- ---- every words and input have a reply
-
-check-total : (R : Region) (s : Section) → (a : Answer) × CheckReply R s a
-check-total R s = go (drawing_refusal R s.lines) (rest_is_empty s.rest)
-  where
-    go : (o : Option DrawingRefusal) (b : Bool)
-        → (a : Answer) × MatchOption o (MatchBool b (a ≡ answer (line (codes "yes" ∷ [])) 0) (a ≡ answer (line (codes "extra text" ∷ [])) 3)) (λ f. a ≡ check_refusal f)
-    go None true = (answer (line (codes "yes" ∷ [])) 0, refl)
-    go None false = (answer (line (codes "extra text" ∷ [])) 3, refl)
-    go (Some f) b = (check_refusal f, refl)
-
-input-total : (input : List ℕ) → (a : Answer) × InputReply Check input a
-input-total input = go (region_of_lines (first_section input).lines) refl
-  where
-    of_region : (R : Region) (cells : List Cell) → R.cells ≡ cells → region_of_lines (first_section input).lines ≡ Ok R → (a : Answer) × InputReply Check input a
-    of_region R [] none e = (answer (region_refusal_text empty) 3, inl (empty, inr (R, e, none, refl), refl))
-    of_region R (c ∷ cs) some e =
-        let (a, p) = check-total R (further_section (first_section input).rest) in
-        (a, inr (R, (e, λ none. cc (some, none)), p))
-
-    go : (r : Result Region RegionRefusal) → region_of_lines (first_section input).lines ≡ r → (a : Answer) × InputReply Check input a
-    go (Err f) e = (answer (region_refusal_text f) 3, inl (f, inl e, refl))
-    go (Ok R) e = of_region R R.cells refl e
-
-command-total : (input : List ℕ) → (a : Answer) × CommandReply Check input a
-command-total input = go (nat_lt (2 ^ 22) (length input))
-  where
-    go : (b : Bool) → (a : Answer) × MatchBool b (a ≡ answer (line (codes "input too long" ∷ [])) 3) (InputReply Check input a)
-    go true = (answer (line (codes "input too long" ∷ [])) 3, refl)
-    go false = input-total input
-
-pub reply-total : (words : List (List ℕ)) (input : List ℕ) → (a : Answer) × Reply words input a.text a.status
-reply-total words input = go (command words)
-  where
-    there : Option Command → Option Command
-    there o = elim o [ None ↦ None | Some c ↦ if is_there c then Some c else None ]
-
-    usage : (a : Answer) × (a ≡ answer usage_text 2)
-    usage = (answer usage_text 2, refl)
-
-    go : (o : Option Command) → (a : Answer) × MatchOption (elim o [ None ↦ None | Some c ↦ if is_there c then Some c else None ]) (a ≡ answer usage_text 2) (λ c. CommandReply c input a)
-    go None = usage
-    go (Some Check) = command-total input
-    go (Some Decide) = usage
-    go (Some Refute) = usage
-    go (Some Flips) = usage
-    go (Some Distance) = usage
-    go (Some (Sample job)) = usage
-    go (Some (Gen gen)) = usage
-
--- ---- runs
-
 -- the whole reply was written
 pub run-whole : (words : List (List ℕ)) (source source' sink sink' : Option (List ℕ)) (a : Answer) (source_rose sink_rose source_same : Type 0)
     → Hears words source source' a source_rose source_same → sink' ≡ append_known sink a.text → IsRun words source source' sink sink' a.status source_rose sink_rose source_same
@@ -84,10 +32,8 @@ run-whole words source source' sink sink' a source_rose sink_rose source_same h 
   replied = λ t. elim h.answers [ inl p ↦ p.1 | inr p ↦ cc (t, ap is_whole p.2) ];
   read_fault = λ e. elim h.answers [ inl p ↦ cc (p.0, ap is_whole e) | inr p ↦ (p.0, p.1) ];
   write_fault = λ e. elim h.answers [ inl p ↦ cc (p.0, ap is_whole e) | inr p ↦ cc (e, p.2) ];
-  cut = λ e. elim e [
-    | inl f ↦ elim h.answers [ inl p ↦ cc (p.0, ap is_whole f) | inr p ↦ cc (f, p.2) ]
-    | inr f ↦ elim h.answers [ inl p ↦ cc (p.0, ap is_whole f) | inr p ↦ cc (f, p.2) ]
-  ];
+  cut = λ e. elim h.answers [ inl p ↦ cc (p.0, ap is_whole e) | inr p ↦ cc (e, p.2) ];
+  silent = λ e. elim h.answers [ inl p ↦ cc (p.0, ap is_whole e) | inr p ↦ cc (e, p.2) ];
   read_whole = h.read_whole;
   untouched = h.untouched;
 }
@@ -108,6 +54,7 @@ run-cut words source source' sink sink' a source_rose sink_rose source_same h w 
     | inl p ↦ inl (a.text, a.status, p.1, w.is_prefix)
     | inr p ↦ inr (p.0, subst (IsPrefixOf w.part) p.1 w.is_prefix)
   ];
+  silent = λ e. cc e;
   read_whole = λ t. cc t;
   untouched = h.untouched;
 }
@@ -128,7 +75,8 @@ run-memory words source source' sink source_rose sink_rose source_same h = recor
   replied = λ t. cc t;
   read_fault = λ e. cc e;
   write_fault = λ e. cc e;
-  cut = λ e. let (a, p) = reply-total words h.input in inl (a.text, a.status, p, (a.text, refl));
+  cut = λ e. cc e;
+  silent = λ e. refl;
   read_whole = λ t. cc t;
   untouched = h.untouched;
 }

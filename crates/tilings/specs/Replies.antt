@@ -4,9 +4,8 @@ use Rattle.tl_definitions.specs.declared.Command.{Command}
 use Rattle.tl_definitions.specs.declared.Command.TheVariants.{Check}
 use Rattle.tl_definitions.specs.Region.{Region}
 use Rattle.tl_definitions.specs.Input.{first_section, further_section}
-use Rattle.tl_definitions.specs.RegionText.{RegionRefusal}
+use Rattle.tl_definitions.specs.RegionText.{RegionRefusal, IsRegionText, IsRefusedText}
 use Rattle.tl_definitions.specs.Texts.{line}
-use Rattle.tl_region.specs.Texts.{IsReadableText, IsUnreadableText}
 use Rattle.tilings.specs.Answers.{Answer, answer, usage_text}
 use Rattle.tilings.specs.Refusals.{region_refusal_text}
 use Rattle.tilings.specs.Check.{CheckReply}
@@ -15,8 +14,8 @@ use Rattle.tilings.specs.Commands.{asked}
 -- The lines of a region's section are refused for their first cause, or name a region, of which P tells.
 abbrev pub OfRegionText : List (List ℕ) → Answer → (Region → Type 0) → Type 0
 OfRegionText lines a P =
-    ((f : RegionRefusal) × IsUnreadableText lines f × (a ≡ answer (region_refusal_text f) 3))
-    ⊎ ((R : Region) × IsReadableText lines R × P R)
+    ((f : RegionRefusal) × IsRefusedText lines f × (a ≡ answer (region_refusal_text f) 3))
+    ⊎ ((R : Region) × IsRegionText lines R × P R)
 
 -- what follows the region's section
 abbrev pub RegionReply : Command → Region → List ℕ → Answer → Type 0

@@ -34,7 +34,8 @@ pub record IsRun (words : List (List ℕ)) (source source' sink sink' : Option (
   -- each fault has its cause
   pub read_fault : status ≡ 4 → source_rose × (out ≡ read_fault_text)
   pub write_fault : status ≡ 5 → sink_rose
-  pub cut : (status ≡ 5) ⊎ (status ≡ 6) → IsCutReply words input out ⊎ (source_rose × IsPrefixOf out read_fault_text)
+  pub cut : status ≡ 5 → IsCutReply words input out ⊎ (source_rose × IsPrefixOf out read_fault_text)
+  pub silent : status ≡ 6 → out ≡ []
   -- what becomes of the source
   pub read_whole : IsTrue (is_whole status) → IsTrue (reads_input words) → length input ≤ 2 ^ 22 → left ≡ []
   pub untouched : reads_input words ≡ false → source_same

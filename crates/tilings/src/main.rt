@@ -6,6 +6,8 @@ mod refusals;
 mod reply;
 mod run;
 mod status;
+#[cfg(test)]
+mod tests;
 mod words;
 
 use run::run_quiet;

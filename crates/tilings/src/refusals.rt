@@ -13,7 +13,7 @@ ghost use Rattle.tilings.specs.Printed.{answer_of};
 use crate::reply::{Reply, fixed};
 use crate::status::Status;
 use std::alloc::{AllocError, Global};
-use tl_lattice::Cell;
+use tl_lattice::{Cell, Corner};
 use tl_region::RegionFault;
 use tl_tiling::DrawFault;
 
@@ -27,6 +27,26 @@ fn bad_byte(alloc: Global, cell: Cell) -> Result<Reply, AllocError>
     })
 }
 
+fn parts(alloc: Global, cell: Cell) -> Result<Reply, AllocError>
+    ensures { IfOk result (λ reply. answer_of reply ≡ answer (region_refusal_text (RegionText.parts cell)) 3) }
+{
+    let Cell { r, c } = cell;
+    Ok(Reply {
+        text: format!(in alloc; "parts {r} {c}\n")?,
+        status: Status::Input,
+    })
+}
+
+fn pinch(alloc: Global, corner: Corner) -> Result<Reply, AllocError>
+    ensures { IfOk result (λ reply. answer_of reply ≡ answer (region_refusal_text (RegionText.pinch corner)) 3) }
+{
+    let Corner { r, x } = corner;
+    Ok(Reply {
+        text: format!(in alloc; "pinch {r} {x}\n")?,
+        status: Status::Input,
+    })
+}
+
 /// The reply to a refused region.
 pub fn region_refusal(alloc: Global, fault: RegionFault) -> Result<Reply, AllocError>
     ensures { IfOk result (λ reply. IsSomeAnd (region_refusal_by fault) (λ f. answer_of reply ≡ answer (region_refusal_text f) 3)) }
@@ -36,6 +56,9 @@ pub fn region_refusal(alloc: Global, fault: RegionFault) -> Result<Reply, AllocE
         RegionFault::BadByte(cell) => bad_byte(alloc, cell),
         RegionFault::TooLarge => fixed(alloc, "region too large\n", Status::Input),
         RegionFault::Empty => fixed(alloc, "empty region\n", Status::Input),
+        RegionFault::Parts(cell) => parts(alloc, cell),
+        RegionFault::Pinch(corner) => pinch(alloc, corner),
+        RegionFault::Hole => fixed(alloc, "hole\n", Status::Input),
         RegionFault::OutOfMemory => Err(AllocError),
     }
 }

@@ -54,7 +54,6 @@ pub fn run_quiet<R: Threads, S: Source, K: Sink + Send, G: Gate + Sync>(
     _gate: &G,
 ) -> Status
     ensures run { IsRun (map (λ w. w.now) words.now) (S.left source.old) (S.left source.new) (K.held sink.old) (K.held sink.new) (code_of result) (Rose (S.faults source.old) (S.faults source.new)) (Rose (K.faults sink.old) (K.faults sink.new)) (source.new ≡ source.old) }
-    ensures silent { result ≡ Status.OutOfMemory → K.held sink.new ≡ K.held sink.old }
 {
     let Ok(reply) = hear(alloc, words, source) else {
         return Status::OutOfMemory;

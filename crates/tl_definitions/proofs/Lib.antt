@@ -1,5 +1,16 @@
 pub mod Regions
 pub mod Joined
+pub mod Gaps
+pub mod GapSides
+pub mod CornerRings
+pub mod EdgeCounts
+pub mod Turns
+pub mod BoundarySides
+pub mod NextCorner
+pub mod CornerPlaces
+pub mod Walks
+pub mod Circuits
+pub mod InnerCorners
 pub mod Neighbours
 pub mod Decide
 pub mod Sublists
@@ -10,9 +21,13 @@ pub mod Lines
 pub mod Raster
 pub mod RegionTexts
 pub mod Cases
+pub mod CornerRows
+pub mod InnerNumbers
+pub mod Labels
 mod SmallSquares
 mod LatticeExamples
 mod CircuitExamples
+mod BoundaryExamples
 mod HeightExamples
 mod SweepExamples
 mod DiamondExamples

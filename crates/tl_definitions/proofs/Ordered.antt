@@ -145,7 +145,7 @@ pub record Only {A : Type 0} (p : A → Bool) (xs : List A) (t : A) : Type 0 whe
   pub passes : p t ≡ true
   pub only : (s : A) → In s xs → p s ≡ true → s ≡ t
 
-count_zero : {A : Type 0} (p : A → Bool) (xs : List A) (z : A) → count_by p xs ≡ 0 → In z xs → p z ≡ true → ⊥
+pub count_zero : {A : Type 0} (p : A → Bool) (xs : List A) (z : A) → count_by p xs ≡ 0 → In z xs → p z ≡ true → ⊥
 count_zero p [] z e i h = i
 count_zero {A} p (x ∷ xs) z e i h = go (p x) refl i (λ f j. count_zero p xs z f j h)
   where

@@ -30,7 +30,7 @@ row-linked r c (suc n) =
     (λ z i. let p = row-cell z r (c + 1) n i in cell_lt-from (cell r c) z (inr (sym p.0, omega (arith, p.1))))
     (row-linked r (c + 1) n)
 
-In-append_cases : {A : Type 0} (x : A) (xs ys : List A) → In x (xs ++ ys) → In x xs ⊎ In x ys
+pub In-append_cases : {A : Type 0} (x : A) (xs ys : List A) → In x (xs ++ ys) → In x xs ⊎ In x ys
 In-append_cases x [] ys i = inr i
 In-append_cases x (y ∷ xs) ys (inl e) = inl (inl e)
 In-append_cases x (y ∷ xs) ys (inr i) = elim (In-append_cases x xs ys i) [ inl j ↦ inl (inr j) | inr j ↦ inr j ]
@@ -44,7 +44,7 @@ rows-cell a columns r (suc n) i = go (In-append_cases a (row_part r 0 columns) (
     go (inl j) ih = omega (arith, (row-cell a r 0 columns j).0)
     go (inr j) ih = omega (arith, ih j)
 
-rows-linked : (columns r n : ℕ) → linked cell_lt (flat_map (λ r. row_part r 0 columns) (range_with_len r n)) ≡ true
+pub rows-linked : (columns r n : ℕ) → linked cell_lt (flat_map (λ r. row_part r 0 columns) (range_with_len r n)) ≡ true
 rows-linked columns r zero = refl
 rows-linked columns r (suc n) =
     linked-append cell_lt cell_lt-irreflexive cell_lt-transitive (row_part r 0 columns) (flat_map (λ r. row_part r 0 columns) (range_with_len (r + 1) n))

@@ -18,3 +18,5 @@ pub mod Chain
 pub mod Heights
 pub mod Border
 pub mod Board
+pub mod Gaps
+pub mod Boundary

@@ -1,8 +1,8 @@
 -- The flags of a rectangle, and what the cells of a region that was read are.
-use Rattle.std.proofs.Common.{◌≡◌, ◌≢◌, ℕ, zero, suc, ◌+◌, ◌*◌, ◌/◌, ◌<◌, ◌≤◌, ◌⊎◌, inl, inr, Bool, true, false, ◌&&◌, ◌||◌, List, [], ◌∷◌, map, length, take, refl, sym, ◌∙◌, ap, arith, get_or, replicate}
-use Rattle.std.specs.Prelude.{nat_lt, ◌==◌, slice_set, filter, flat_map, All}
+use Rattle.std.proofs.Common.{◌≡◌, ◌≢◌, ℕ, zero, suc, ◌+◌, ◌*◌, ◌/◌, ◌<◌, ◌≤◌, ◌⊎◌, inl, inr, Bool, true, false, ◌||◌, List, [], ◌∷◌, map, length, take, refl, sym, ◌∙◌, ap, arith, get_or, replicate}
+use Rattle.std.specs.Prelude.{◌==◌, slice_set, filter, flat_map, All}
 use Rattle.std.specs.List.{list_any, range_with_len}
-use Rattle.std.proofs.lemmas.Bool.{ltb-true, and_parts}
+use Rattle.std.proofs.lemmas.Bool.{false_from_ne_true}
 use Rattle.std.proofs.lemmas.Nat.{mul-add-lt, div-mul-add}
 use Rattle.std.proofs.lemmas.List.{get_or-set_same, get_or-set_other, take_more, length-set, length-append, length-replicate}
 use Rattle.std.proofs.lemmas.List.Folds.{list_any-append}
@@ -12,12 +12,12 @@ use Rattle.std.proofs.Math.Nat.{mul_comm, mul-le-mul}
 use Rattle.tl_definitions.specs.declared.Cell.{Cell}
 use Rattle.tl_definitions.specs.Lattice.{cell, cell_eq}
 use Rattle.tl_definitions.specs.Region.{Region, has, places, upto}
-use Rattle.tl_definitions.proofs.Regions.{any-filter-places, same_test, cell_eq-parts, cell_eq-of_parts, nat_cases, or-left, or-right}
+use Rattle.tl_definitions.proofs.Regions.{same_test, has-within, cell_eq-parts, cell_eq-of_parts, nat_cases, or-left, or-right}
 use Rattle.tl_definitions.specs.Accepted.{IsPlaced}
 use Rattle.tl_region.specs.Grid.{flag_at, AreFlagsOf, IsKept}
 
 -- two cells with one place in a row-major list are the same
-same_place : (a b : Cell) (w : ℕ) → a.c < w → b.c < w → a.r * w + a.c ≡ b.r * w + b.c → (a.r ≡ b.r) × (a.c ≡ b.c)
+pub same_place : (a b : Cell) (w : ℕ) → a.c < w → b.c < w → a.r * w + a.c ≡ b.r * w + b.c → (a.r ≡ b.r) × (a.c ≡ b.c)
 same_place a b w h k e =
     let rows : a.r ≡ b.r = sym (div-mul-add a.r w a.c h) ∙ ap (λ (n : ℕ). n / w) e ∙ div-mul-add b.r w b.c k in
     let start : a.r * w ≡ b.r * w = ap (λ (n : ℕ). n * w) rows in
@@ -98,28 +98,22 @@ few_cells R k =
 
 -- no place outside the rectangle is in the region
 pub has-outside : (R : Region) (a : Cell) → IsKept R → ¬ ((a.r < R.rows) × (a.c < R.columns)) → has R a ≡ false
-has-outside R a k out = same_test (has R a) false there (λ e. cc e)
-  where
-    there : has R a ≡ true → false ≡ true
-    there e =
-        let p : (has R a ≡ true) × ((nat_lt a.r R.rows && nat_lt a.c R.columns) ≡ true) =
-        and_parts _ _ (sym (any-filter-places (has R) a R.rows R.columns) ∙ (ap (list_any (cell_eq a)) (sym k.placed) ∙ e)) in
-        let q : (nat_lt a.r R.rows ≡ true) × (nat_lt a.c R.columns ≡ true) = and_parts _ _ p.1 in
-        absurd (out (ltb-true _ _ q.0, ltb-true _ _ q.1))
+has-outside R a k out = false_from_ne_true _ (λ e. out (has-within R a k.placed e))
 
 -- each cell is within the rectangle
-any-self : (cells : List Cell) (k : ℕ) (d : Cell) → k < length cells → list_any (cell_eq (get_or cells k d)) cells ≡ true
+pub any-self : (cells : List Cell) (k : ℕ) (d : Cell) → k < length cells → list_any (cell_eq (get_or cells k d)) cells ≡ true
 any-self [] k d h = absurd (omega (arith, h))
 any-self (c ∷ cs) zero d h = or-left _ _ (cell_eq-of_parts c c refl refl)
 any-self (c ∷ cs) (suc k) d h = or-right (cell_eq (get_or cs k d) c) _ (any-self cs k d (omega (arith, h)))
 
 pub cells_within : (R : Region) → IsPlaced R → All (λ a. (a.r < R.rows) × (a.c < R.columns)) R.cells
-cells_within R placed k d h =
-    let a : Cell = get_or R.cells k d in
-    let inside : list_any (cell_eq a) (filter (has R) (places R.rows R.columns)) ≡ true = ap (list_any (cell_eq a)) (sym placed) ∙ any-self R.cells k d h in
-    let p : (has R a ≡ true) × ((nat_lt a.r R.rows && nat_lt a.c R.columns) ≡ true) = and_parts _ _ (sym (any-filter-places (has R) a R.rows R.columns) ∙ inside) in
-    let q : (nat_lt a.r R.rows ≡ true) × (nat_lt a.c R.columns ≡ true) = and_parts _ _ p.1 in
-    (ltb-true _ _ q.0, ltb-true _ _ q.1)
+cells_within R placed k d h = has-within R (get_or R.cells k d) placed (any-self R.cells k d h)
 
 pub not_zero : (n : ℕ) (b : Bool) → b ≡ (n == 0) → b ≡ false → n ≢ 0
 not_zero n b e f z = cc (ap (λ (m : ℕ). m == 0) z, e, f)
+
+-- the place of a cell of the region is one of the rectangle's
+pub place-within : (R : Region) (a : Cell) → IsKept R → has R a ≡ true → a.r * R.columns + a.c < R.rows * R.columns
+place-within R a k e =
+    let p : (a.r < R.rows) × (a.c < R.columns) = has-within R a k.placed e in
+    omega (arith, mul-add-lt a.r R.columns a.c R.rows p.0 p.1, mul_comm R.columns R.rows)

@@ -1,3 +1,9 @@
+mod InnerLemmas
+mod FloodLemmas
 mod GridLemmas
+mod CornerScans
+mod EulerCounts
+mod MarkLemmas
+mod WalkLemmas
 mod RowLemmas
 mod TextLemmas

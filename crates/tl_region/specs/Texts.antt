@@ -1,4 +1,4 @@
--- Which texts are read as regions, by the first rule of an accepted region alone.
+-- Which texts name cells, before it is asked whether they lie in one part, without pinch and without hole.
 use Rattle.std.specs.Prelude.{◌≡◌, ◌≢◌, ◌⊎◌, ℕ, List, [], Ok, Err}
 use Rattle.tl_definitions.specs.Region.{Region}
 use Rattle.tl_definitions.specs.RegionText.{RegionRefusal, region_of_lines, empty}

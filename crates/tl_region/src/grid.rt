@@ -1,6 +1,6 @@
 //! Cells with a flag for each place.
 
-ghost use Rattle.std.specs.Prelude.{◌≡◌, ◌<◌, length, slice_get};
+ghost use Rattle.std.specs.Prelude.{◌≡◌, ◌<◌, ◌+◌, ◌*◌, true, length, slice_get};
 ghost use Rattle.tl_definitions.specs.Region.{has};
 ghost use Rattle.tl_region.specs.Grid.{IsKept};
 
@@ -55,7 +55,8 @@ impl Grid {
 
     /// The lattice of the region.
     pub fn kind(&self) -> Kind
-        ensures { result ≡ self.now.kind }
+        ensures kind { result ≡ self.now.kind }
+        ensures kept { IsKept self.now }
     {
         self.kind
     }
@@ -90,6 +91,24 @@ impl Grid {
         ensures { slice_get self.now.cells i ≡ Some result }
     {
         self.cells[i as usize]
+    }
+
+    /// The cells, in raster order.
+    pub fn cells(&self) -> &[Cell]
+        ensures cells { result.now ≡ self.now.cells }
+        ensures kept { IsKept self.now }
+    {
+        self.cells.as_slice()
+    }
+
+    /// The place of a cell of the region in a list of all places, row by row.
+    pub fn place(&self, cell: Cell) -> usize
+        requires { has self.now cell ≡ true }
+        ensures place { result ≡ cell.r * self.now.columns + cell.c }
+        ensures within { result < self.now.rows * self.now.columns }
+        ensures kept { IsKept self.now }
+    {
+        cell.r as usize * self.columns as usize + cell.c as usize
     }
 
     /// Whether the cell is one of the region.

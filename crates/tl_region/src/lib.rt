@@ -1,18 +1,28 @@
 //! Regions: finitely many cells of one lattice, read from a text.
 #![tactic(auto)]
 
+mod circuit;
+mod corner_marks;
+mod euler;
 mod fault;
 mod flags;
 mod grid;
 mod header;
+mod inner;
+mod parts;
+mod pinch;
 mod reading;
 mod region;
+mod rings;
 mod rows;
+mod rules;
 
 pub use fault::RegionFault;
 pub use reading::read_region;
 pub use region::Region;
 pub use tl_lines::rest_is_empty;
 
+#[cfg(test)]
+mod rule_tests;
 #[cfg(test)]
 mod tests;

@@ -6,6 +6,7 @@ ghost use Rattle.tl_lines.specs.Lines.{section_at};
 ghost use Rattle.tl_region.specs.Grid.{IsKept};
 ghost use Rattle.tl_region.specs.Refusals.{refusal_by};
 ghost use Rattle.tl_definitions.specs.Accepted.{IsPlaced};
+ghost use Rattle.tl_definitions.specs.RegionText.{IsRegionText, IsRefusedText};
 ghost use Rattle.tl_region.specs.Rows.{region_by, HasAllowedSize, HasRefusedSize};
 ghost use Rattle.tl_region.specs.Texts.{IsReadableText, IsUnreadableText};
 
@@ -13,8 +14,10 @@ use crate::fault::RegionFault;
 use crate::flags::flags_of;
 use crate::grid::Grid;
 use crate::header::kind_of;
+use crate::inner::inner_of;
 use crate::region::Region;
 use crate::rows::{Rows, read_rows};
+use crate::rules::check_rules;
 use std::alloc::Global;
 use tl_lattice::Kind;
 use tl_lines::cut_line;
@@ -41,17 +44,12 @@ fn grid_from(alloc: Global, kind: Kind, rows: Rows) -> Result<Grid, RegionFault>
     Ok(Grid::with_flags(kind, rows.count, rows.columns, rows.cells, flags))
 }
 
-/// Reads the region of the first section, and tells the number of bytes taken, the closing empty line
-/// included. There are at most 2^22 bytes.
-///
-/// The first line is the header: `square` or `triangle`, after which any number of spaces may stand. Each
-/// further line is a row, in which `#` is a cell of the region and `.` and a space are none.
-///
-/// # Errors
-/// The first cause in the order of `RegionFault`.
-pub fn read_region(alloc: Global, bytes: &[u8]) -> Result<(Region, usize), RegionFault>
+/// Reads the cells that the first section names, before the rules of an accepted region are asked, and tells the
+/// number of bytes taken.
+pub fn read_grid(alloc: Global, bytes: &[u8]) -> Result<(Grid, usize), RegionFault>
     requires { length bytes.now ≤ 2 ^ 22 }
     ensures region { IfOk result (λ p. IsReadableText (first_section bytes.now).lines p.0) }
+    ensures kept { IfOk result (λ p. IsKept p.0) }
     ensures taken { IfOk result (λ p. p.1 ≡ taken bytes.now (first_section bytes.now)) }
     ensures refused { IfErr result (λ fault. IfSome (refusal_by fault) (IsUnreadableText (first_section bytes.now).lines)) }
 {
@@ -64,5 +62,27 @@ pub fn read_region(alloc: Global, bytes: &[u8]) -> Result<(Region, usize), Regio
     };
     let (rows, rest) = read_rows(alloc, text)?;
     let grid = grid_from(alloc, kind, rows)?;
-    Ok((Region::of(grid), bytes.len() - rest.len()))
+    Ok((grid, bytes.len() - rest.len()))
+}
+
+/// Reads the region of the first section, and tells the number of bytes taken, the closing empty line
+/// included. There are at most 2^22 bytes.
+///
+/// The first line is the header: `square` or `triangle`, after which any number of spaces may stand. Each
+/// further line is a row, in which `#` is a cell of the region and `.` and a space are none.
+///
+/// # Errors
+/// The first cause in the order of `RegionFault`.
+pub fn read_region(alloc: Global, bytes: &[u8]) -> Result<(Region, usize), RegionFault>
+    requires { length bytes.now ≤ 2 ^ 22 }
+    ensures region { IfOk result (λ p. IsRegionText (first_section bytes.now).lines p.0) }
+    ensures taken { IfOk result (λ p. p.1 ≡ taken bytes.now (first_section bytes.now)) }
+    ensures refused { IfErr result (λ fault. IfSome (refusal_by fault) (IsRefusedText (first_section bytes.now).lines)) }
+{
+    let (grid, taken) = read_grid(alloc, bytes)?;
+    check_rules(alloc, &grid)?;
+    let Ok(inner) = inner_of(alloc, &grid) else {
+        return Err(RegionFault::OutOfMemory);
+    };
+    Ok((Region::of(grid, inner), taken))
 }

@@ -1,37 +1,47 @@
 //! The region type.
 
-ghost use Rattle.std.specs.Prelude.{◌≡◌, ◌<◌, length, slice_get};
-ghost use Rattle.tl_definitions.specs.Region.{has};
+ghost use Rattle.std.specs.Prelude.{◌≡◌, ◌<◌, length, slice_get, position, Some};
+ghost use Rattle.tl_definitions.specs.Accepted.{Accepted};
+ghost use Rattle.tl_definitions.specs.Lattice.{corner_eq};
+ghost use Rattle.tl_definitions.specs.Region.{has, inner_corners};
 ghost use Rattle.tl_region.specs.Grid.{IsKept};
+ghost use Rattle.tl_region.specs.Inner.{IsInnerOf};
 
 use crate::grid::Grid;
+use crate::inner::Inner;
 use std::marker::Model;
-use tl_lattice::{Cell, Kind};
+use tl_lattice::{Cell, Corner, Kind};
 
-/// Finitely many cells of one lattice: at least one, in at most 512 rows and 512 columns.
+/// An accepted region: finitely many cells of one lattice, at least one, in one piece without pinch and without
+/// hole, in at most 512 rows and 512 columns.
 #[derive(Drop)]
 pub struct Region {
     grid: Grid,
+    inner: Inner,
 }
 
 impl Model for Region {
     ghost use Rattle.tl_definitions.specs.Region as shape;
     ghost use Rattle.tl_region.specs.Grid.{IsKept};
+    ghost use Rattle.tl_region.specs.Inner.{IsInnerOf};
+    ghost use Rattle.tl_definitions.specs.Accepted.{Accepted};
 
     ghost Value = { shape.Region };
 
     ghost view = { λ s. s.grid };
 
-    ghost invariant = { λ s. IsKept s.grid };
+    ghost invariant = { λ s. IsKept s.grid × IsInnerOf s.grid s.inner × Accepted s.grid };
 }
 
 impl Region {
-    /// The region of these cells.
-    pub(crate) fn of(grid: Grid) -> Region
-        requires { IsKept grid }
+    /// The region of these cells, with its inner corners.
+    pub(crate) fn of(grid: Grid, inner: Inner) -> Region
+        requires kept { IsKept grid }
+        requires inner { IsInnerOf grid inner }
+        requires accepted { Accepted grid }
         ensures { result ≡ grid }
     {
-        Region { grid }
+        Region { grid, inner }
     }
 
     /// The lattice of the region.
@@ -45,6 +55,7 @@ impl Region {
     pub fn rows(&self) -> u32
         ensures rows { result ≡ self.now.rows }
         ensures kept { IsKept self.now }
+        ensures accepted { Accepted self.now }
     {
         self.grid.rows()
     }
@@ -78,5 +89,29 @@ impl Region {
         ensures { result ≡ has self.now cell }
     {
         self.grid.has(cell)
+    }
+
+    /// The number of inner corners: those whose whole ring is in the region.
+    pub fn inner_count(&self) -> u32
+        ensures count { result ≡ length (inner_corners self.now) }
+        ensures kept { IsKept self.now }
+    {
+        self.inner.corners.len() as u32
+    }
+
+    /// The inner corner of this number, in raster order from 0.
+    pub fn inner(&self, i: u32) -> Corner
+        requires { i < length (inner_corners self.now) }
+        ensures { slice_get (inner_corners self.now) i ≡ Some result }
+    {
+        self.inner.corners[i as usize]
+    }
+
+    /// The number of the corner, in constant time; None where the pair is no inner corner. Any pair may be
+    /// asked for.
+    pub fn index_of(&self, corner: Corner) -> Option<u32>
+        ensures { result ≡ position (corner_eq corner) (inner_corners self.now) }
+    {
+        self.inner.index_of(&self.grid, corner)
     }
 }

@@ -2,9 +2,12 @@
 
 ghost use Rattle.std.specs.Prelude.{◌≤◌, ◌^◌, length};
 
+use crate::parts::first_parted;
+use crate::reading::read_grid;
 use crate::{Region, RegionFault, read_region, rest_is_empty};
 use std::alloc::{AllocError, Global};
-use tl_lattice::{Cell, Kind};
+use std::test::Fail;
+use tl_lattice::{Cell, Corner, Kind};
 
 fn fault_of(alloc: Global, text: &[u8]) -> Option<RegionFault>
     requires { length text.now ≤ 2 ^ 22 }
@@ -14,7 +17,7 @@ fn fault_of(alloc: Global, text: &[u8]) -> Option<RegionFault>
 
 #[test]
 fn a_region_has_its_cells_in_raster_order(rt: HostRuntime) {
-    let text = b"triangle  \r\n.#\r\n###\r\n \r\n\r\nrest".as_slice();
+    let text = b"triangle  \r\n#.\r\n###\r\n \r\n\r\nrest".as_slice();
     let read = read_region(rt.alloc(), text);
     assert!(rt; read.is_ok());
     if let Ok((region, taken)) = read {
@@ -23,7 +26,7 @@ fn a_region_has_its_cells_in_raster_order(rt: HostRuntime) {
         assert_eq!(rt; region.rows(), 3);
         assert_eq!(rt; region.columns(), 3);
         assert_eq!(rt; region.cell_count(), 4);
-        let wanted = [(0u32, 1u32), (1, 0), (1, 1), (1, 2)];
+        let wanted = [(0u32, 0u32), (1, 0), (1, 1), (1, 2)];
         for (i, (r, c)) in wanted.into_iter().enumerate() {
             if (i as u32) < region.cell_count() {
                 assert_eq!(rt; region.cell(i as u32), Cell { r, c });
@@ -43,7 +46,7 @@ fn a_region_has_its_cells_in_raster_order(rt: HostRuntime) {
 
 #[test]
 fn each_text_has_its_first_fault(rt: HostRuntime) {
-    let cases: [(&[u8], RegionFault); 16] = [
+    let cases: [(&[u8], RegionFault); 24] = [
         (b"", RegionFault::BadHeader),
         (b"\nsquare\n##\n", RegionFault::BadHeader),
         (b"Square\n##\n", RegionFault::BadHeader),
@@ -72,6 +75,26 @@ fn each_text_has_its_first_fault(rt: HostRuntime) {
             RegionFault::BadByte(Cell { r: 1, c: 0 }),
         ),
         (b"triangle\n\n##\n", RegionFault::Empty),
+        (b"square\n#.\n.#\n", RegionFault::Parts(Cell { r: 1, c: 1 })),
+        (
+            b"triangle\n.#\n.#\n",
+            RegionFault::Parts(Cell { r: 1, c: 1 }),
+        ),
+        (
+            b"square\n###.#\n#.#..\n##...\n",
+            RegionFault::Parts(Cell { r: 0, c: 4 }),
+        ),
+        (
+            b"square\n###\n#.#\n##.\n",
+            RegionFault::Pinch(Corner { r: 2, x: 2 }),
+        ),
+        (b"square\n###\n#.#\n###\n", RegionFault::Hole),
+        (b"triangle\n.#####.\n###.###\n.#####.\n", RegionFault::Hole),
+        (b"square\n#####\n#.#.#\n###.#\n..###\n", RegionFault::Hole),
+        (
+            b"square\n###\n#x#\n",
+            RegionFault::BadByte(Cell { r: 1, c: 1 }),
+        ),
     ];
     for (text, fault) in cases {
         if text.len() < 100 {
@@ -137,4 +160,83 @@ fn a_region_has_at_most_512_rows_and_columns(rt: HostRuntime) -> Result<(), Allo
 fn only_line_ends_may_be_left(rt: HostRuntime) {
     assert!(rt; rest_is_empty(b"\r\n\n"));
     assert!(rt; !rest_is_empty(b"\n#"));
+}
+
+#[test]
+fn the_first_cell_that_is_not_joined_is_named(rt: HostRuntime) -> Result<(), Fail> {
+    let cases: [(&[u8], Option<Cell>); 9] = [
+        (b"square\n#\n", None),
+        (b"square\n#.\n.#\n", Some(Cell { r: 1, c: 1 })),
+        (b"square\n#.#\n..#\n", Some(Cell { r: 0, c: 2 })),
+        (b"square\n#.#\n###\n", None),
+        (b"square\n#####\n....#\n###.#\n#...#\n#####\n", None),
+        (
+            b"square\n#####\n....#\n###.#\n#....\n#####\n",
+            Some(Cell { r: 2, c: 0 }),
+        ),
+        (b"square\n.#\n.#\n", None),
+        (b"triangle\n.#\n.#\n", Some(Cell { r: 1, c: 1 })),
+        (b"triangle\n#.\n#.\n", None),
+    ];
+    for (text, parted) in cases {
+        if text.len() < 100 {
+            let (grid, _) = read_grid(rt.alloc(), text)?;
+            assert_eq!(rt; first_parted(rt.alloc(), &grid)?, parted, "{text:?}");
+        }
+    }
+    Ok(())
+}
+
+#[test]
+fn a_row_and_a_column_of_512_are_in_one_part(rt: HostRuntime) -> Result<(), Fail> {
+    for (columns, rows) in [(512usize, 1usize), (1, 512)] {
+        let text = long_text(rt.alloc(), columns, rows, b"")?;
+        if text.len() <= 4194304 {
+            let (grid, _) = read_grid(rt.alloc(), text.as_slice())?;
+            assert_eq!(rt; first_parted(rt.alloc(), &grid)?, None);
+        }
+    }
+    Ok(())
+}
+
+#[test]
+fn inner_corners_are_numbered_in_raster_order(rt: HostRuntime) -> Result<(), Fail> {
+    let cases: [(&[u8], &[(u32, u32)]); 6] = [
+        (b"square\n#\n", &[]),
+        (b"square\n##\n##\n", &[(1, 1)]),
+        (
+            b"square\n.##\n####\n####\n.##\n",
+            &[(1, 2), (2, 1), (2, 2), (2, 3), (3, 2)],
+        ),
+        (b"triangle\n##\n##\n", &[]),
+        (b"triangle\n###\n###\n", &[(1, 2)]),
+        (b"triangle\n.###\n.###\n", &[]),
+    ];
+    for (text, corners) in cases {
+        if text.len() < 100 {
+            let (region, _) = read_region(rt.alloc(), text)?;
+            assert_eq!(rt; region.inner_count() as usize, corners.len(), "{text:?}");
+            for (i, (r, x)) in corners.iter().enumerate() {
+                if (i as u32) < region.inner_count() {
+                    assert_eq!(rt; region.inner(i as u32), Corner { r: *r, x: *x });
+                }
+            }
+            for r in 0..6u32 {
+                for x in 0..7u32 {
+                    let number = corners.iter().position(|pair| *pair == (r, x));
+                    assert_eq!(rt;
+                        region.index_of(Corner { r, x }).map(|i| i as usize),
+                        number,
+                        "{r} {x}"
+                    );
+                }
+            }
+            for far in [512u32, 513, 1048576, u32::MAX] {
+                assert_eq!(rt; region.index_of(Corner { r: far, x: 1 }), None);
+                assert_eq!(rt; region.index_of(Corner { r: 1, x: far }), None);
+                assert_eq!(rt; region.index_of(Corner { r: far, x: far }), None);
+            }
+        }
+    }
+    Ok(())
 }

@@ -3,3 +3,5 @@ mod ReadLemmas
 mod MatchLemmas
 mod DrawLemmas
 mod PrintLemmas
+mod TilingLemmas
+mod PrintedLemmas

@@ -130,6 +130,7 @@ pub fn read_letters<'t>(
     ensures rest { IfOk result (λ p. p.1.now ≡ (section_at text.now).rest) }
     ensures within { IfOk result (λ p. length p.1.now ≤ length text.now) }
     ensures refused { IfErr result (λ fault. IfSome (refusal_by fault) (IsFirstBadLetter region.now (section_at text.now).lines)) }
+    ensures kept { IsKept region.now }
 {
     let size = region.rows() as usize * region.columns() as usize;
     let Ok(mut letters) = vec![in alloc; b'.'; size] else {

@@ -5,6 +5,8 @@ mod fault;
 mod letters;
 mod matching;
 mod reading;
+#[cfg(test)]
+mod tests;
 mod tiling;
 
 pub use fault::DrawFault;

@@ -7,6 +7,7 @@ use Rattle.tl_definitions.specs.Drawing.{Draws, drawing_refusal, unmatched, is_m
 use Rattle.tl_lines.specs.Lines.{section_at}
 use Rattle.tl_tiling.specs.Letters.{partner_in, tiles_in}
 use Rattle.tl_tiling.proofs.DrawLemmas.{refused-cell, not_refused, are_letters, drawn_by, refused_section}
+use Rattle.tl_tiling.proofs.PrintedLemmas.{printed-same, printed-none}
 use Rattle.tl_tiling.proofs.reading.read_drawing.Goals as goal
 
 pub returns-in_err-letters-clause-refused : goal.returns-in_err-letters-clause-refused
@@ -48,3 +49,31 @@ returns-clause-allowed c =
     let s = section_at c.skip_empty_lines.result.now in
     let none = subst (λ (l : List ℕ). None ≡ find (λ a. not (is_matched R (partner_in R l) a)) R.cells) c.as_slice.ensures.value (sym c.in_default.is ∙ c.first_unmatched.ensures.first) in
     subst (λ (u : Section). drawing_refusal R u.lines ≡ None) c.skip_empty_lines.ensures.section (not_refused R s.lines c.in_ok-letters.letters.items c.in_ok-letters.ensures.read none)
+
+pub returns-in_err-letters-clause-printed : goal.returns-in_err-letters-clause-printed
+returns-in_err-letters-clause-printed c =
+    let R = c.args.region.now in
+    let p = err_from_is_err_and c.from_residual.result c.from_residual.ensures.1 in
+    rw (p.1, p.2)
+    (λ A rest t b e. printed-none R c.args.bytes.now rest A _ c.in_err-letters.ensures.kept
+    (refused_section R _ (section_at c.skip_empty_lines.result.now) (further_section c.args.bytes.now) c.skip_empty_lines.ensures.section c.in_err-letters.ensures.refused) t b e)
+
+pub returns-in-Some-clause-printed : goal.returns-in-Some-clause-printed
+returns-in-Some-clause-printed c =
+    let R = c.args.region.now in
+    let s = section_at c.skip_empty_lines.result.now in
+    let first = subst (λ (l : List ℕ). Some c.in-Some.cell ≡ find (λ a. not (is_matched R (partner_in R l) a)) R.cells) c.as_slice.ensures.value c.in-Some.ensures.first in
+    let told = subst (λ (u : Section). drawing_refusal R u.lines ≡ Some (unmatched c.in-Some.cell)) c.skip_empty_lines.ensures.section
+    (refused-cell R s.lines c.in_ok-letters.letters.items c.in-Some.cell c.in_ok-letters.ensures.read first) in
+    λ A rest t b e. printed-none R c.args.bytes.now rest A (Some (unmatched c.in-Some.cell)) c.first_unmatched.ensures.kept told t b e
+
+pub returns-clause-again : goal.returns-clause-again
+returns-clause-again c =
+    let R = c.args.region.now in
+    let s = section_at c.skip_empty_lines.result.now in
+    let kept = c.first_unmatched.ensures.kept in
+    let none = subst (λ (l : List ℕ). None ≡ find (λ a. not (is_matched R (partner_in R l) a)) R.cells) c.as_slice.ensures.value (sym c.in_default.is ∙ c.first_unmatched.ensures.first) in
+    let drawn = subst (λ (u : Section). Draws R u.lines (tiles_in R c.in_ok-letters.letters.items)) c.skip_empty_lines.ensures.section
+    (drawn_by R s.lines c.in_ok-letters.letters.items kept c.in_ok-letters.ensures.read none) in
+    λ A rest t b e. subst (λ (u : Tiled). u.tiles ≡ A) (sym c.of.ensures)
+    (printed-same R c.args.bytes.now rest A (tiles_in R c.in_ok-letters.letters.items) kept drawn t b e)

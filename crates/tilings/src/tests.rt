@@ -1,0 +1,251 @@
+//! Runs over memory: words and input, and the reply, the status and what both ends keep.
+
+ghost use Rattle.std.specs.Prelude.{◌≤◌};
+
+use crate::run::run_quiet;
+use crate::status::Status;
+use std::alloc::{AllocError, Global};
+use std::thread::Threads;
+use tl_io::{FreeGate, MemSink, MemSource, Source, Took};
+
+const USAGE: &[u8] = b"usage: tilings check | decide | refute | flips | distance
+       tilings sample [--seed S] [--count N] [--bound B] [--workers W] [--bands K]
+       tilings gen --shape aztec|hexagon|staircase|hourglass --order N [--summary] [options of sample]
+";
+
+// The status of `check` on an input, and what it wrote.
+fn check<R: Threads>(rt: &R, alloc: Global, input: &[u8]) -> Result<(Status, MemSink), AllocError> {
+    let bytes = Vec::from_slice(alloc, input)?;
+    let mut source = MemSource::new(bytes, 3, Vec::new(alloc));
+    let mut sink = MemSink::new(alloc, 300, 7, Vec::new(alloc))?;
+    let status = run_quiet(rt, alloc, &["check"], &mut source, &mut sink, &FreeGate);
+    Ok((status, sink))
+}
+
+#[test]
+fn a_drawing_of_a_tiling_is_accepted_and_another_is_not(rt: HostRuntime) -> Result<(), AllocError> {
+    let cases: [(&[u8], &[u8], Status); 16] = [
+        (b"square\n##\n##\n\n><\n><\n", b"yes\n", Status::Answered),
+        (b"square\n##\n##\n\nvv\n^^\n", b"yes\n", Status::Answered),
+        (b"square\n##\n##\n\n>>\n><\n", b"no 0 0\n", Status::Refuted),
+        (b"square\n##\n##\n\n><\n<>\n", b"no 1 0\n", Status::Refuted),
+        (b"square\n##\n##\n\nv<\n^<\n", b"no 0 1\n", Status::Refuted),
+        (b"square\n##\n\n^^\n", b"no 0 0\n", Status::Refuted),
+        (b"square\n#\n\n<\n", b"no 0 0\n", Status::Refuted),
+        (
+            b"square  \r\n##\r\n##\r\n\r\n\r\n><  \r\n><\r\n\r\n",
+            b"yes\n",
+            Status::Answered,
+        ),
+        (b"square\n##\n##\n\n><\n><", b"yes\n", Status::Answered),
+        (b"square\n##\n##\n\n><\n><\r", b"yes\n", Status::Answered),
+        (b"square\n.##.\n\n.>< .\n", b"yes\n", Status::Answered),
+        (b"square\n.\n##\n\n\n \n><\n", b"yes\n", Status::Answered),
+        (b"square\n.\n##\n\n\n.\n><\n \n", b"yes\n", Status::Answered),
+        (
+            b"triangle\n###\n###\n\n><v\n><^\n",
+            b"yes\n",
+            Status::Answered,
+        ),
+        (
+            b"triangle\n###\n###\n\nvvv\n^^^\n",
+            b"no 0 1\n",
+            Status::Refuted,
+        ),
+        (
+            b"triangle\n###\n###\n\nv><\n^><\n",
+            b"yes\n",
+            Status::Answered,
+        ),
+    ];
+    for (input, reply, wanted) in cases {
+        let (status, sink) = check(&rt, rt.alloc(), input)?;
+        assert_eq!(rt; sink.held(), reply, "{input:?}");
+        assert_eq!(rt; status, wanted, "{input:?}");
+    }
+    Ok(())
+}
+
+#[test]
+fn each_input_has_its_first_refusal(rt: HostRuntime) -> Result<(), AllocError> {
+    let cases: [(&[u8], &[u8], Status); 25] = [
+        (b"square\n###\n#.#\n###\n\n><\n", b"hole\n", Status::Input),
+        (b"square\n###\n#.#\n##.\n", b"pinch 2 2\n", Status::Input),
+        (b"square\n#.\n.#\n\n#\n", b"parts 1 1\n", Status::Input),
+        (
+            b"triangle\n.#\n.#\n\n.v\n.^\n",
+            b"parts 1 1\n",
+            Status::Input,
+        ),
+        (b"square\n###\n#.#\n##x\n", b"bad byte 2 2\n", Status::Input),
+        (b"", b"bad header\n", Status::Input),
+        (b"\nsquare\n##\n", b"bad header\n", Status::Input),
+        (b"Square\n##\n\n><\n", b"bad header\n", Status::Input),
+        (b"square", b"empty region\n", Status::Input),
+        (b"square\n..\n\n><\n", b"empty region\n", Status::Input),
+        (b"square\n#x\n\n??\n", b"bad byte 0 1\n", Status::Input),
+        (b"square\n##\n#\rx\n", b"bad byte 1 1\n", Status::Input),
+        (
+            b"square\n##\n",
+            b"drawing 1 bad letter 0 0\n",
+            Status::Input,
+        ),
+        (
+            b"square\n##\n\n\n \n",
+            b"drawing 1 bad letter 0 0\n",
+            Status::Input,
+        ),
+        (
+            b"square\n##\n\n>\n",
+            b"drawing 1 bad letter 0 1\n",
+            Status::Input,
+        ),
+        (
+            b"square\n##\n\n><<\n",
+            b"drawing 1 bad letter 0 2\n",
+            Status::Input,
+        ),
+        (
+            b"square\n##\n\n><\n.v\n",
+            b"drawing 1 bad letter 1 1\n",
+            Status::Input,
+        ),
+        (
+            b"square\n##\n##\n\n>>\n>x\n",
+            b"drawing 1 bad letter 1 1\n",
+            Status::Input,
+        ),
+        (
+            b"square\n##\n##\n\n>>\n",
+            b"drawing 1 bad letter 1 0\n",
+            Status::Input,
+        ),
+        (
+            b"square\n##\n\n>.\n",
+            b"drawing 1 bad letter 0 1\n",
+            Status::Input,
+        ),
+        (b"square\n##\n\n><\n\n##\n", b"extra text\n", Status::Input),
+        (
+            b"square\n##\n\n><\n\n\r\n .\n",
+            b"extra text\n",
+            Status::Input,
+        ),
+        (b"square\n##\n\n><\n\n\r\n\r", b"yes\n", Status::Answered),
+        (b"square\n##\n\n><\n\n \n", b"extra text\n", Status::Input),
+        (b"square\n##\n\n>>\n\n##\n", b"no 0 0\n", Status::Refuted),
+    ];
+    for (input, reply, wanted) in cases {
+        let (status, sink) = check(&rt, rt.alloc(), input)?;
+        assert_eq!(rt; sink.held(), reply, "{input:?}");
+        assert_eq!(rt; status, wanted, "{input:?}");
+    }
+    Ok(())
+}
+
+#[test]
+fn a_region_has_at_most_512_rows_and_columns(rt: HostRuntime) -> Result<(), AllocError> {
+    let head = b"square\n".as_slice();
+    let cases: [(usize, &[u8]); 2] = [
+        (512, b"drawing 1 bad letter 0 0\n"),
+        (513, b"region too large\n"),
+    ];
+    for (columns, reply) in cases {
+        let row = vec![in rt.alloc(); b'#'; columns]?;
+        let mut input = Vec::from_slice(rt.alloc(), head)?;
+        input.extend_from_slice(row.as_slice())?;
+        let (status, sink) = check(&rt, rt.alloc(), input.as_slice())?;
+        assert_eq!(rt; sink.held(), reply);
+        assert_eq!(rt; status, Status::Input);
+    }
+    Ok(())
+}
+
+#[test]
+fn an_input_has_at_most_four_mebibytes(rt: HostRuntime) -> Result<(), AllocError> {
+    let start = b"square\n##\n\n><\n".as_slice();
+    let cases: [(usize, &[u8], Status); 2] = [
+        (4194304, b"yes\n", Status::Answered),
+        (4194305, b"input too long\n", Status::Input),
+    ];
+    for (size, reply, wanted) in cases {
+        let mut input = vec![in rt.alloc(); b'\n'; size]?;
+        for (place, byte) in input.iter_mut().zip(start.iter()) {
+            *place = *byte;
+        }
+        let mut source = MemSource::new(input, 1000000, Vec::new(rt.alloc()));
+        let mut sink = MemSink::new(rt.alloc(), 64, 64, Vec::new(rt.alloc()))?;
+        let status = run_quiet(
+            &rt,
+            rt.alloc(),
+            &["check"],
+            &mut source,
+            &mut sink,
+            &FreeGate,
+        );
+        assert_eq!(rt; sink.held(), reply);
+        assert_eq!(rt; status, wanted);
+    }
+    Ok(())
+}
+
+#[test]
+fn words_that_are_no_command_leave_the_source(rt: HostRuntime) -> Result<(), AllocError> {
+    let lines: [&[&str]; 6] = [
+        &[],
+        &[""],
+        &["Check"],
+        &["check", "check"],
+        &["check", "--seed", "1"],
+        &["--help"],
+    ];
+    for words in lines {
+        let bytes = Vec::from_slice(rt.alloc(), b"abc")?;
+        let mut source = MemSource::new(bytes, 9, Vec::new(rt.alloc()));
+        let mut sink = MemSink::new(rt.alloc(), 300, 64, Vec::new(rt.alloc()))?;
+        let status = run_quiet(&rt, rt.alloc(), words, &mut source, &mut sink, &FreeGate);
+        assert_eq!(rt; sink.held(), USAGE, "{words:?}");
+        assert_eq!(rt; status, Status::Usage, "{words:?}");
+        let mut buf = [0u8; 8];
+        assert_eq!(rt; source.read(&mut buf), Took::Bytes(3), "{words:?}");
+    }
+    Ok(())
+}
+
+#[test]
+fn a_failed_read_is_told(rt: HostRuntime) -> Result<(), AllocError> {
+    let bytes = Vec::from_slice(rt.alloc(), b"square\n##\n##\n\n><\n><\n")?;
+    let fails = Vec::from_slice(rt.alloc(), &[1])?;
+    let mut source = MemSource::new(bytes, 4, fails);
+    let mut sink = MemSink::new(rt.alloc(), 64, 5, Vec::new(rt.alloc()))?;
+    let status = run_quiet(
+        &rt,
+        rt.alloc(),
+        &["check"],
+        &mut source,
+        &mut sink,
+        &FreeGate,
+    );
+    assert_eq!(rt; sink.held(), b"read fault\n".as_slice());
+    assert_eq!(rt; status, Status::ReadFault);
+    Ok(())
+}
+
+#[test]
+fn a_failed_write_cuts_the_reply(rt: HostRuntime) -> Result<(), AllocError> {
+    let bytes = Vec::from_slice(rt.alloc(), b"square\n##\n##\n\n><\n")?;
+    let mut source = MemSource::new(bytes, 4, Vec::new(rt.alloc()));
+    let fails = Vec::from_slice(rt.alloc(), &[1])?;
+    let mut sink = MemSink::new(rt.alloc(), 64, 5, fails)?;
+    let status = run_quiet(
+        &rt,
+        rt.alloc(),
+        &["check"],
+        &mut source,
+        &mut sink,
+        &FreeGate,
+    );
+    assert_eq!(rt; sink.held(), b"drawi".as_slice());
+    assert_eq!(rt; status, Status::WriteFault);
+    Ok(())
+}

@@ -1,0 +1,110 @@
+-- The corner places of a region: their order, and that the ends of its sides are among them.
+use Rattle.std.proofs.Common.{◌≡◌, ℕ, zero, suc, ◌+◌, ◌<◌, ◌≤◌, ◌⊎◌, inl, inr, Bool, true, false, ◌&&◌, List, [], ◌∷◌, map, cond, Some, refl, sym, ◌∙◌, ap, subst, arith}
+use Rattle.std.specs.Prelude.{flat_map, find, nat_lt, ◌==◌}
+use Rattle.std.specs.List.{range_with_len}
+use Rattle.std.proofs.lemmas.Bool.{and_parts, and_from, or_cases, or_left, or_right, eqb-true, eqb-false, eq-eqb, ltb-true, lt-ltb}
+use Rattle.tl_definitions.specs.declared.Corner.{Corner}
+use Rattle.tl_definitions.specs.Lattice.{corner, corner_lt, is_corner}
+use Rattle.tl_definitions.specs.Region.{Region, corner_places, upto}
+use Rattle.tl_definitions.specs.Accepted.{linked}
+use Rattle.tl_definitions.proofs.Sublists.{In, In-map, In-filter, In-flat_map, later, linked-tail}
+use Rattle.tl_definitions.proofs.Ordered.{linked-cons, linked-append, linked-filter}
+use Rattle.tl_definitions.proofs.Partners.{In-append_cases}
+
+-- ---- raster order
+
+pub corner_lt-cases : (u v : Corner) → corner_lt u v ≡ true → (u.r < v.r) ⊎ ((u.r ≡ v.r) × (u.x < v.x))
+corner_lt-cases u v e = go (or_cases (nat_lt u.r v.r) (u.r == v.r && nat_lt u.x v.x) e)
+  where
+    go : (nat_lt u.r v.r ≡ true) ⊎ ((u.r == v.r && nat_lt u.x v.x) ≡ true) → (u.r < v.r) ⊎ ((u.r ≡ v.r) × (u.x < v.x))
+    go (inl h) = inl (ltb-true _ _ h)
+    go (inr h) = let p = and_parts (u.r == v.r) (nat_lt u.x v.x) h in inr (eqb-true _ _ p.0, ltb-true _ _ p.1)
+
+pub corner_lt-from : (u v : Corner) → (u.r < v.r) ⊎ ((u.r ≡ v.r) × (u.x < v.x)) → corner_lt u v ≡ true
+corner_lt-from u v (inl h) = or_left (nat_lt u.r v.r) _ (lt-ltb _ _ h)
+corner_lt-from u v (inr h) = or_right (nat_lt u.r v.r) _ (and_from _ _ (eq-eqb u.r v.r h.0) (lt-ltb u.x v.x h.1))
+
+pub corner_lt-irreflexive : (v : Corner) → corner_lt v v ≡ true → ⊥
+corner_lt-irreflexive v e = go (corner_lt-cases v v e)
+  where
+    go : (v.r < v.r) ⊎ ((v.r ≡ v.r) × (v.x < v.x)) → ⊥
+    go (inl h) = omega (arith, h)
+    go (inr h) = omega (arith, h.1)
+
+pub corner_lt-transitive : (u v w : Corner) → corner_lt u v ≡ true → corner_lt v w ≡ true → corner_lt u w ≡ true
+corner_lt-transitive u v w e f = corner_lt-from u w (go (corner_lt-cases u v e) (corner_lt-cases v w f))
+  where
+    go : (u.r < v.r) ⊎ ((u.r ≡ v.r) × (u.x < v.x)) → (v.r < w.r) ⊎ ((v.r ≡ w.r) × (v.x < w.x)) → (u.r < w.r) ⊎ ((u.r ≡ w.r) × (u.x < w.x))
+    go (inl h) (inl k) = inl (omega (arith, h, k))
+    go (inl h) (inr k) = inl (omega (arith, h, k.0))
+    go (inr h) (inl k) = inl (omega (arith, h.0, k))
+    go (inr h) (inr k) = inr (omega (arith, h.0, k.0), omega (arith, h.1, k.1))
+
+abbrev row : ℕ → ℕ → ℕ → List Corner
+row r s n = map (λ x. corner r x) (range_with_len s n)
+
+row-corner : (v : Corner) (r s n : ℕ) → In v (row r s n) → (v.r ≡ r) × (s ≤ v.x)
+row-corner v r s zero i = absurd i
+row-corner v r s (suc n) (inl e) = (ap (λ (u : Corner). u.r) e, omega (arith, ap (λ (u : Corner). u.x) e))
+row-corner v r s (suc n) (inr i) = let p = row-corner v r (s + 1) n i in (p.0, omega (arith, p.1))
+
+row-linked : (r s n : ℕ) → linked corner_lt (row r s n) ≡ true
+row-linked r s zero = refl
+row-linked r s (suc n) =
+    linked-cons corner_lt corner_lt-irreflexive corner_lt-transitive (corner r s) (row r (s + 1) n)
+    (λ z i. let p = row-corner z r (s + 1) n i in corner_lt-from (corner r s) z (inr (sym p.0, omega (arith, p.1))))
+    (row-linked r (s + 1) n)
+
+abbrev rows : ℕ → ℕ → ℕ → List Corner
+rows width r n = flat_map (λ r. row r 0 width) (range_with_len r n)
+
+rows-corner : (v : Corner) (width r n : ℕ) → In v (rows width r n) → r ≤ v.r
+rows-corner v width r zero i = absurd i
+rows-corner v width r (suc n) i = go (In-append_cases v (row r 0 width) (rows width (r + 1) n) i) (rows-corner v width (r + 1) n)
+  where
+    go : In v (row r 0 width) ⊎ In v (rows width (r + 1) n) → (In v (rows width (r + 1) n) → r + 1 ≤ v.r) → r ≤ v.r
+    go (inl j) ih = omega (arith, (row-corner v r 0 width j).0)
+    go (inr j) ih = omega (arith, ih j)
+
+rows-linked : (width r n : ℕ) → linked corner_lt (rows width r n) ≡ true
+rows-linked width r zero = refl
+rows-linked width r (suc n) =
+    linked-append corner_lt corner_lt-irreflexive corner_lt-transitive (row r 0 width) (rows width (r + 1) n)
+    (row-linked r 0 width) (rows-linked width (r + 1) n)
+    (λ x y i j. corner_lt-from x y (inl (omega (arith, (row-corner x r 0 width i).0, rows-corner y width (r + 1) n j))))
+
+-- the corner places stand in raster order
+pub corner_places-linked : (R : Region) → linked corner_lt (corner_places R) ≡ true
+corner_places-linked R =
+    linked-filter corner_lt corner_lt-irreflexive corner_lt-transitive (is_corner R.kind) (rows (R.columns + 2) 0 (R.rows + 1)) (rows-linked (R.columns + 2) 0 (R.rows + 1))
+
+-- ---- which they are
+
+In-range : (m s n : ℕ) → s ≤ m → m < s + n → In m (range_with_len s n)
+In-range m s zero h k = absurd (omega (arith, h, k))
+In-range m s (suc n) h k = go (s == m) refl (λ l. In-range m (s + 1) n l (omega (arith, k)))
+  where
+    go : (t : Bool) → (s == m) ≡ t → (s + 1 ≤ m → In m (range_with_len (s + 1) n)) → In m (range_with_len s (suc n))
+    go true e ih = inl (sym (eqb-true s m e))
+    go false e ih = inr (ih (omega (arith, h, eqb-false s m e)))
+
+pub In-corner_places : (R : Region) (v : Corner) → is_corner R.kind v ≡ true → v.r < R.rows + 1 → v.x < R.columns + 2 → In v (corner_places R)
+In-corner_places R v c h k =
+    In-filter (is_corner R.kind) v (rows (R.columns + 2) 0 (R.rows + 1)) c
+    (In-flat_map (λ r. row r 0 (R.columns + 2)) v v.r (upto (R.rows + 1)) (In-range v.r 0 (R.rows + 1) (omega arith) (omega (arith, h)))
+    (In-map (λ x. corner v.r x) v.x (upto (R.columns + 2)) (In-range v.x 0 (R.columns + 2) (omega arith) (omega (arith, k)))))
+
+-- the first of an ordered list that passes stands before the others that do
+pub find-first : {A : Type 0} (lt : A → A → Bool) → ((x : A) → lt x x ≡ true → ⊥) → ((x y z : A) → lt x y ≡ true → lt y z ≡ true → lt x z ≡ true)
+    → (p : A → Bool) (xs : List A) (x y : A) → linked lt xs ≡ true → find p xs ≡ Some x → In y xs → p y ≡ true → (y ≡ x) ⊎ (lt x y ≡ true)
+find-first lt irreflexive transitive p [] x y l f i e = absurd i
+find-first {A} lt irreflexive transitive p (z ∷ xs) x y l f i e = go (p z) refl f i (λ k j. find-first lt irreflexive transitive p xs x y (linked-tail lt irreflexive transitive z xs l) k j e)
+  where
+    some_same : (a b : A) → Some a ≡ Some b → a ≡ b
+    some_same a b h = cc h
+
+    go : (t : Bool) → p z ≡ t → cond t (Some z) (find p xs) ≡ Some x → (y ≡ z) ⊎ In y xs → (find p xs ≡ Some x → In y xs → (y ≡ x) ⊎ (lt x y ≡ true)) → (y ≡ x) ⊎ (lt x y ≡ true)
+    go true h k (inl same) ih = inl (same ∙ some_same z x k)
+    go true h k (inr j) ih = inr (subst (λ w. lt w y ≡ true) (some_same z x k) (later lt irreflexive transitive z xs y l j))
+    go false h k (inl same) ih = cc (sym e, ap p same, h)
+    go false h k (inr j) ih = ih k j

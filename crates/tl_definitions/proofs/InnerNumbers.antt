@@ -1,0 +1,227 @@
+-- Inner corners: where they lie, and the number of each.
+use Rattle.std.proofs.Common.{◌≡◌, ℕ, zero, suc, ◌+◌, ◌-◌, ◌<◌, ◌≤◌, ◌⊎◌, inl, inr, Bool, true, false, not, ◌&&◌, cond, List, [], ◌∷◌, ◌++◌, length, refl, sym, ◌∙◌, ap, subst, arith, Option, Some, None, eqb}
+use Rattle.std.specs.Prelude.{filter, nat_lt, slice_get, position, is_some}
+use Rattle.std.specs.List.{list_any, list_all, position_or_len}
+use Rattle.std.proofs.lemmas.Bool.{and_parts, or_parts, or_left, or_right, or_cases, or_from, cases_Bool, false_from_ne_true, lt-ltb, le-ltb, eqb-true, eq-eqb, cases_lt}
+use Rattle.std.proofs.lemmas.List.Folds.{list_any-append}
+use Rattle.std.proofs.lemmas.Map.Views.{any-filter_same}
+use Rattle.std.proofs.Math.Numerals.{one-add}
+use Rattle.tl_definitions.specs.declared.Kind.{Kind}
+use Rattle.tl_definitions.specs.declared.Kind.TheVariants.{Square, Triangle}
+use Rattle.tl_definitions.specs.declared.Corner.{Corner}
+use Rattle.tl_definitions.specs.Lattice.{cell, corner_eq, corner_lt, is_corner, cell_back, ring}
+use Rattle.tl_definitions.specs.Region.{Region, has, has_at, corner_places, is_inner, inner_corners}
+use Rattle.tl_definitions.specs.Accepted.{linked, IsPlaced}
+use Rattle.tl_definitions.proofs.Sublists.{In, later, linked-tail}
+use Rattle.tl_definitions.proofs.Ordered.{In-filter_parts, linked-filter}
+use Rattle.tl_definitions.proofs.Regions.{same_test, has-within}
+use Rattle.tl_definitions.proofs.CornerRows.{corner_rows, any-corner_rows, corner_lt-irreflexive, corner_lt-transitive, corner_rows-linked}
+
+pub corner_eq-parts : (u v : Corner) → corner_eq u v ≡ true → (u.r ≡ v.r) × (u.x ≡ v.x)
+corner_eq-parts u v e =
+    let p : (eqb u.r v.r ≡ true) × (eqb u.x v.x ≡ true) = and_parts (eqb u.r v.r) (eqb u.x v.x) e in
+    (eqb-true _ _ p.0, eqb-true _ _ p.1)
+
+pub corner_eq-same : (u v : Corner) → corner_eq u v ≡ true → u ≡ v
+corner_eq-same u v e =
+    let p : (u.r ≡ v.r) × (u.x ≡ v.x) = corner_eq-parts u v e in
+    λ i. record { r = p.0 i; x = p.1 i }
+
+pub corner_eq-refl : (v : Corner) → corner_eq v v ≡ true
+corner_eq-refl v = rw (eq-eqb v.r v.r refl, eq-eqb v.x v.x refl) refl
+
+-- ---- where they lie
+
+-- a place of the ring with a cell of the region
+back-there : (R : Region) (v : Corner) (rows columns : ℕ) → IsPlaced R → has_at R (cell_back v rows columns) ≡ true
+    → (rows ≤ v.r) × (columns ≤ v.x) × (v.r - rows < R.rows) × (v.x - columns < R.columns)
+back-there R v rows columns placed e = go (cases_lt v.r rows) (cases_lt v.x columns)
+  where
+    go : (v.r < rows) ⊎ (rows ≤ v.r) → (v.x < columns) ⊎ (columns ≤ v.x) → (rows ≤ v.r) × (columns ≤ v.x) × (v.r - rows < R.rows) × (v.x - columns < R.columns)
+    go (inl h) k = cc (rw (lt-ltb v.r rows h) at e)
+    go (inr h) (inl k) = cc (rw (le-ltb v.r rows h, lt-ltb v.x columns k) at e)
+    go (inr h) (inr k) =
+        let inside : has R (cell (v.r - rows) (v.x - columns)) ≡ true = rw (le-ltb v.r rows h, le-ltb v.x columns k) at e in
+        let p : (v.r - rows < R.rows) × (v.x - columns < R.columns) = has-within R (cell (v.r - rows) (v.x - columns)) placed inside in
+        (h, k, p.0, p.1)
+
+-- An inner corner lies between the cells: its row and its column are among theirs, and neither is the first.
+pub record IsAmongCells (R : Region) (v : Corner) : Type 0 where
+  pub below_first_row : 1 ≤ v.r
+  pub row : v.r < R.rows
+  pub right_of_first_column : 1 ≤ v.x
+  pub column : v.x < R.columns
+
+among : (R : Region) (k : Kind) (v : Corner) → IsPlaced R → list_all (has_at R) (ring k v) ≡ true → IsAmongCells R v
+among R Square v placed e =
+    let p : (has_at R (cell_back v 1 1) ≡ true) × (list_all (has_at R) (cell_back v 1 0 ∷ cell_back v 0 0 ∷ cell_back v 0 1 ∷ []) ≡ true) = and_parts _ _ e in
+    let q : (has_at R (cell_back v 1 0) ≡ true) × (list_all (has_at R) (cell_back v 0 0 ∷ cell_back v 0 1 ∷ []) ≡ true) = and_parts _ _ p.1 in
+    let s : (has_at R (cell_back v 0 0) ≡ true) × (list_all (has_at R) (cell_back v 0 1 ∷ []) ≡ true) = and_parts _ _ q.1 in
+    let first = back-there R v 1 1 placed p.0 in
+    let last = back-there R v 0 0 placed s.0 in
+    record { below_first_row = first.0; row = omega (arith, last.2); right_of_first_column = first.1; column = omega (arith, last.3) }
+among R Triangle v placed e =
+    let p : (has_at R (cell_back v 1 2) ≡ true) × (list_all (has_at R) (cell_back v 1 1 ∷ cell_back v 1 0 ∷ cell_back v 0 0 ∷ cell_back v 0 1 ∷ cell_back v 0 2 ∷ []) ≡ true) = and_parts _ _ e in
+    let q : (has_at R (cell_back v 1 1) ≡ true) × (list_all (has_at R) (cell_back v 1 0 ∷ cell_back v 0 0 ∷ cell_back v 0 1 ∷ cell_back v 0 2 ∷ []) ≡ true) = and_parts _ _ p.1 in
+    let s : (has_at R (cell_back v 1 0) ≡ true) × (list_all (has_at R) (cell_back v 0 0 ∷ cell_back v 0 1 ∷ cell_back v 0 2 ∷ []) ≡ true) = and_parts _ _ q.1 in
+    let t : (has_at R (cell_back v 0 0) ≡ true) × (list_all (has_at R) (cell_back v 0 1 ∷ cell_back v 0 2 ∷ []) ≡ true) = and_parts _ _ s.1 in
+    let first = back-there R v 1 1 placed q.0 in
+    let last = back-there R v 0 0 placed t.0 in
+    record { below_first_row = first.0; row = omega (arith, last.2); right_of_first_column = first.1; column = omega (arith, last.3) }
+
+pub inner-among : (R : Region) (v : Corner) → IsPlaced R → is_inner R v ≡ true → IsAmongCells R v
+inner-among R v placed e = among R R.kind v placed (and_parts _ _ e).1
+
+-- ---- which corners are listed
+
+pub filter-filter : {A : Type 0} (p q : A → Bool) → ((x : A) → p x ≡ true → q x ≡ true) → (xs : List A) → filter p (filter q xs) ≡ filter p xs
+filter-filter p q f [] = refl
+filter-filter p q f (x ∷ xs) = go (p x) (q x) refl refl (filter-filter p q f xs)
+  where
+    go : (s t : Bool) → p x ≡ s → q x ≡ t → filter p (filter q xs) ≡ filter p xs → filter p (cond t (x ∷ filter q xs) (filter q xs)) ≡ cond s (x ∷ filter p xs) (filter p xs)
+    go true true e k ih = rw e (ap (λ (l : List _). x ∷ l) ih)
+    go true false e k ih = cc (f x e, k)
+    go false true e k ih = rw e ih
+    go false false e k ih = ih
+
+-- the inner corners, of all corners in raster order
+pub inner_corners-rows : (R : Region) → inner_corners R ≡ filter (is_inner R) (corner_rows (R.columns + 2) (R.rows + 1))
+inner_corners-rows R = filter-filter (is_inner R) (is_corner R.kind) (λ v e. (and_parts _ _ e).0) (corner_rows (R.columns + 2) (R.rows + 1))
+
+-- every inner corner is one of them
+pub any-inner_corners : (R : Region) (v : Corner) → IsPlaced R → list_any (corner_eq v) (inner_corners R) ≡ is_inner R v
+any-inner_corners R v placed =
+    ap (list_any (corner_eq v)) (inner_corners-rows R)
+    ∙ any-filter_same (corner_eq v) (is_inner R) (is_inner R v) (λ u e. ap (is_inner R) (sym (corner_eq-same v u e))) (corner_rows (R.columns + 2) (R.rows + 1))
+    ∙ ap (λ (t : Bool). is_inner R v && t) (any-corner_rows v (R.columns + 2) (R.rows + 1))
+    ∙ same_test _ _ (λ e. (and_parts _ _ e).0) back
+  where
+    back : is_inner R v ≡ true → (is_inner R v && (nat_lt v.r (R.rows + 1) && nat_lt v.x (R.columns + 2))) ≡ true
+    back e =
+        let p = inner-among R v placed e in
+        rw (e, lt-ltb v.r (R.rows + 1) (omega (arith, p.row)), lt-ltb v.x (R.columns + 2) (omega (arith, p.column))) refl
+
+-- ---- their numbers
+
+-- the first place of an element that passes, where none does and after one more element
+pub position-none : {A : Type 0} (p : A → Bool) (xs : List A) → list_any p xs ≡ false → position_or_len p xs ≡ length xs
+position-none p [] e = refl
+position-none p (x ∷ xs) e =
+    let q = or_parts (p x) (list_any p xs) e in
+    let rest : position_or_len p xs ≡ length xs = position-none p xs q.1 in
+    rw (q.0) (omega (arith, rest))
+
+pub position-within : {A : Type 0} (p : A → Bool) (xs : List A) → list_any p xs ≡ true → position_or_len p xs < length xs
+position-within p [] e = cc e
+position-within p (x ∷ xs) e = go (p x) refl (or_cases (p x) (list_any p xs) e) (position-within p xs)
+  where
+    go : (t : Bool) → p x ≡ t → (p x ≡ true) ⊎ (list_any p xs ≡ true) → (list_any p xs ≡ true → position_or_len p xs < length xs) → cond (not t) (1 + position_or_len p xs) 0 < suc (length xs)
+    go true k i ih = omega arith
+    go false k (inl h) ih = cc (h, k)
+    go false k (inr h) ih = omega (arith, ih h)
+
+pub position-some : {A : Type 0} (p : A → Bool) (xs : List A) → list_any p xs ≡ true → position p xs ≡ Some (position_or_len p xs)
+position-some p xs e = rw (lt-ltb _ _ (position-within p xs e)) refl
+
+pub position-missing : {A : Type 0} (p : A → Bool) (xs : List A) → list_any p xs ≡ false → position p xs ≡ None
+position-missing p xs e = rw (le-ltb (position_or_len p xs) (length xs) (omega (arith, position-none p xs e))) refl
+
+position_or_len-append : {A : Type 0} (p : A → Bool) (xs ys : List A) → list_any p xs ≡ true → position_or_len p (xs ++ ys) ≡ position_or_len p xs
+position_or_len-append p [] ys e = cc e
+position_or_len-append p (x ∷ xs) ys e = go (p x) refl (or_cases (p x) (list_any p xs) e) (position_or_len-append p xs ys)
+  where
+    go : (t : Bool) → p x ≡ t → (p x ≡ true) ⊎ (list_any p xs ≡ true) → (list_any p xs ≡ true → position_or_len p (xs ++ ys) ≡ position_or_len p xs)
+        → cond (not t) (1 + position_or_len p (xs ++ ys)) 0 ≡ cond (not t) (1 + position_or_len p xs) 0
+    go true k i ih = refl
+    go false k (inl h) ih = cc (h, k)
+    go false k (inr h) ih = ap (λ (n : ℕ). 1 + n) (ih h)
+
+position_or_len-after : {A : Type 0} (p : A → Bool) (xs ys : List A) → list_any p xs ≡ false → position_or_len p (xs ++ ys) ≡ length xs + position_or_len p ys
+position_or_len-after p [] ys e = omega arith
+position_or_len-after p (x ∷ xs) ys e =
+    let q = or_parts (p x) (list_any p xs) e in
+    let rest : position_or_len p (xs ++ ys) ≡ length xs + position_or_len p ys = position_or_len-after p xs ys q.1 in
+    rw (q.0) (omega (arith, rest))
+
+-- an element that fails changes no place, and the first that passes stands at the end
+pub position-other : {A : Type 0} (p : A → Bool) (xs : List A) (y : A) → p y ≡ false → position p (xs ++ (y ∷ [])) ≡ position p xs
+position-other p xs y e = go (cases_Bool (list_any p xs))
+  where
+    go : (list_any p xs ≡ true) ⊎ (list_any p xs ≡ false) → position p (xs ++ (y ∷ [])) ≡ position p xs
+    go (inl h) =
+        position-some p (xs ++ (y ∷ [])) (list_any-append p xs (y ∷ []) ∙ or_left _ _ h)
+        ∙ ap (λ (n : ℕ). Some n) (position_or_len-append p xs (y ∷ []) h) ∙ sym (position-some p xs h)
+    go (inr h) =
+        position-missing p (xs ++ (y ∷ [])) (list_any-append p xs (y ∷ []) ∙ or_from _ _ h (or_from _ _ e refl)) ∙ sym (position-missing p xs h)
+
+pub position-here : {A : Type 0} (p : A → Bool) (xs : List A) (y : A) → list_any p xs ≡ false → p y ≡ true → position p (xs ++ (y ∷ [])) ≡ Some (length xs)
+position-here p xs y h e =
+    let here : position_or_len p (y ∷ []) ≡ 0 = rw e refl in
+    position-some p (xs ++ (y ∷ [])) (list_any-append p xs (y ∷ []) ∙ or_right _ _ (or_left _ _ e))
+    ∙ ap (λ (n : ℕ). Some n) (position_or_len-after p xs (y ∷ []) h ∙ omega (arith, here))
+
+position-at : {A : Type 0} (p : A → Bool) (xs : List A) → list_any p xs ≡ true → (a : A) × (slice_get xs (position_or_len p xs) ≡ Some a) × (p a ≡ true)
+position-at p [] e = cc e
+position-at {A} p (x ∷ xs) e = go (p x) refl (or_cases (p x) (list_any p xs) e) (position-at p xs)
+  where
+    go : (t : Bool) → p x ≡ t → (p x ≡ true) ⊎ (list_any p xs ≡ true) → (list_any p xs ≡ true → (a : A) × (slice_get xs (position_or_len p xs) ≡ Some a) × (p a ≡ true))
+        → (a : A) × (slice_get (x ∷ xs) (cond (not t) (1 + position_or_len p xs) 0) ≡ Some a) × (p a ≡ true)
+    go true k i ih = (x, refl, k)
+    go false k (inl h) ih = cc (h, k)
+    go false k (inr h) ih =
+        let (a, at, pass) = ih h in
+        (a, ap (λ (n : ℕ). slice_get (x ∷ xs) n) (one-add (position_or_len p xs)) ∙ at, pass)
+
+-- The corner with a number is the one that has it.
+pub inner-numbered : (R : Region) (v : Corner) (n : ℕ) → position (corner_eq v) (inner_corners R) ≡ Some n → slice_get (inner_corners R) n ≡ Some v
+inner-numbered R v n e = numbered (inner_corners R) (cases_Bool (list_any (corner_eq v) (inner_corners R))) e
+  where
+    numbered : (vs : List Corner) → (list_any (corner_eq v) vs ≡ true) ⊎ (list_any (corner_eq v) vs ≡ false) → position (corner_eq v) vs ≡ Some n → slice_get vs n ≡ Some v
+    numbered vs (inr h) e = cc (position-missing (corner_eq v) vs h, e)
+    numbered vs (inl h) e =
+        let (u, at, same) = position-at (corner_eq v) vs h in
+        let number : position_or_len (corner_eq v) vs ≡ n = cc (position-some (corner_eq v) vs h, e) in
+        subst (λ (i : ℕ). slice_get vs i ≡ Some v) number (at ∙ ap (λ (w : Corner). Some w) (sym (corner_eq-same v u same)))
+
+pub inner_corners-linked : (R : Region) → linked corner_lt (inner_corners R) ≡ true
+inner_corners-linked R =
+    ap (linked corner_lt) (inner_corners-rows R)
+    ∙ linked-filter corner_lt corner_lt-irreflexive corner_lt-transitive (is_inner R) (corner_rows (R.columns + 2) (R.rows + 1)) (corner_rows-linked (R.columns + 2) (R.rows + 1))
+
+In-at : {A : Type 0} (xs : List A) (n : ℕ) (a : A) → slice_get xs n ≡ Some a → In a xs
+In-at [] zero a e = cc e
+In-at [] (suc n) a e = cc e
+In-at (x ∷ xs) zero a e = let same : x ≡ a = cc e in inl (sym same)
+In-at (x ∷ xs) (suc n) a e = inr (In-at xs n a e)
+
+number-linked : (vs : List Corner) (n : ℕ) (v : Corner) → linked corner_lt vs ≡ true → slice_get vs n ≡ Some v
+    → (list_any (corner_eq v) vs ≡ true) × (position_or_len (corner_eq v) vs ≡ n)
+number-linked [] zero v l e = cc e
+number-linked [] (suc n) v l e = cc e
+number-linked (u ∷ us) zero v l e =
+    let u_is : u ≡ v = cc e in
+    let same : corner_eq v u ≡ true = ap (corner_eq v) u_is ∙ corner_eq-refl v in
+    (or_left (corner_eq v u) _ same, rw same refl)
+number-linked (u ∷ us) (suc n) v l e =
+    let rest = number-linked us n v (linked-tail corner_lt corner_lt-irreflexive corner_lt-transitive u us l) e in
+    let above : corner_lt u v ≡ true = later corner_lt corner_lt-irreflexive corner_lt-transitive u us v l (In-at us n v e) in
+    let differ : corner_eq v u ≡ false = false_from_ne_true _ (λ t. corner_lt-irreflexive v (subst (λ w. corner_lt w v ≡ true) (sym (corner_eq-same v u t)) above)) in
+    (or_right (corner_eq v u) _ rest.0, rw differ (omega (arith, rest.1)))
+
+-- and no other number is its number
+pub inner-number : (R : Region) (v : Corner) (n : ℕ) → slice_get (inner_corners R) n ≡ Some v → position (corner_eq v) (inner_corners R) ≡ Some n
+inner-number R v n e =
+    let p = number-linked (inner_corners R) n v (inner_corners-linked R) e in
+    position-some (corner_eq v) (inner_corners R) p.0 ∙ ap (λ (i : ℕ). Some i) p.1
+
+-- what stands in the list is an inner corner
+pub inner-at : (R : Region) (v : Corner) (n : ℕ) → slice_get (inner_corners R) n ≡ Some v → is_inner R v ≡ true
+inner-at R v n e = (In-filter_parts (is_inner R) v (corner_places R) (In-at (inner_corners R) n v e)).1
+
+-- A pair has a number exactly where it is an inner corner.
+pub is_some-number : (R : Region) (v : Corner) → IsPlaced R → is_some (position (corner_eq v) (inner_corners R)) ≡ is_inner R v
+is_some-number R v placed = go (cases_Bool (list_any (corner_eq v) (inner_corners R)))
+  where
+    go : (list_any (corner_eq v) (inner_corners R) ≡ true) ⊎ (list_any (corner_eq v) (inner_corners R) ≡ false) → is_some (position (corner_eq v) (inner_corners R)) ≡ is_inner R v
+    go (inl h) = ap (λ (o : Option ℕ). is_some o) (position-some (corner_eq v) (inner_corners R) h) ∙ sym h ∙ any-inner_corners R v placed
+    go (inr h) = ap (λ (o : Option ℕ). is_some o) (position-missing (corner_eq v) (inner_corners R) h) ∙ sym h ∙ any-inner_corners R v placed
