@@ -1,0 +1,134 @@
+-- Lawful heights stay lawful where they are raised at an inner corner to which all steps fall, or lowered at one from
+-- which all steps fall.
+use Rattle.std.proofs.Common.{◌≡◌, ℕ, zero, suc, ◌-◌, inl, inr, Bool, true, false, List, [], ◌∷◌, cond, Some, refl, sym, ◌∙◌, ap, subst, arith, ℤ, pos, negsuc, ◌+ℤ◌, ◌*ℤ◌, ◌≤ℤ◌, int_lt}
+use Rattle.std.specs.Prelude.{slice_get, IsTrue}
+use Rattle.std.proofs.lemmas.Int.{ints}
+use Rattle.std.proofs.lemmas.Bool.{false_from_ne_true}
+use Rattle.tl_definitions.specs.declared.Kind.{Kind}
+use Rattle.tl_definitions.specs.declared.Kind.TheVariants.{Square, Triangle}
+use Rattle.tl_definitions.specs.declared.Cell.{Cell}
+use Rattle.tl_definitions.specs.declared.Corner.{Corner}
+use Rattle.tl_definitions.specs.Lattice.{corner_eq, steps_out, Side}
+use Rattle.tl_definitions.specs.Region.{Region, present, boundary, is_corner_of, is_inner}
+use Rattle.tl_definitions.specs.Accepted.{Accepted, IsCircuit, circuit_corners}
+use Rattle.tl_definitions.specs.Obstruction.{is_step, prefix}
+use Rattle.tl_definitions.specs.Heights.{rise, height, AreLawful}
+use Rattle.tl_definitions.proofs.Sublists.{In}
+use Rattle.tl_definitions.proofs.Ordered.{In-list_all}
+use Rattle.tl_closing.specs.Closing.{steps_round}
+use Rattle.tl_closing.specs.Standing.{steps_in, falls_from, falls_to}
+use Rattle.tl_closing.specs.Changed.{IsChangedAt}
+use Rattle.tl_closing.proofs.Members.{In-map_parts}
+use Rattle.tl_closing.proofs.Steps.{corner_eq-same, step-one_way}
+use Rattle.tl_closing.proofs.Edges.{Distinct-cells, round-corners, corner_of-from, is_step-parts}
+use Rattle.tl_closing.proofs.Circuit.{walk-boundary}
+use Rattle.tl_closing.proofs.Falls.{falls-by}
+use Rattle.tl_closing.proofs.Start.{boundary-corner}
+use Rattle.tl_closing.proofs.OffBoundary.{inner-off_boundary, step-out, step-in}
+
+slice_get-In : {A : Type 0} (xs : List A) (k : ℕ) (x : A) → slice_get xs k ≡ Some x → In x xs
+slice_get-In [] k x e = cc e
+slice_get-In (y ∷ ys) zero x e = inl (cc e)
+slice_get-In (y ∷ ys) (suc k) x e = inr (slice_get-In ys k x e)
+
+pub step-ends : (R : Region) (u w : Corner) → IsTrue (is_step R u w) → (is_corner_of R u ≡ true) × (is_corner_of R w ≡ true)
+step-ends R u w e = go (is_step-parts R u w e)
+  where
+    go : (a : Cell) × In a R.cells × In (u, w) (steps_round R.kind a) → (is_corner_of R u ≡ true) × (is_corner_of R w ≡ true)
+    go (a, i, j) = let p = round-corners R.kind a (u, w) j in (corner_of-from R a u i p.0, corner_of-from R a w i p.1)
+
+-- from x to y by 1 modulo the rise, and by no more than 1
+abbrev IsMildRise : Kind → ℤ → ℤ → Type 0
+IsMildRise k x y = ((m : ℤ) × (y ≡ (x +ℤ pos 1) +ℤ (pos (rise k) *ℤ m))) × (y ≤ℤ (x +ℤ pos 1))
+
+module _ (R : Region) (numbers others : List ℤ) (v : Corner) (more : ℤ) (accepted : Accepted R) (lawful : AreLawful R numbers) (inner : is_inner R v ≡ true)
+    (changed : IsChangedAt R numbers others v more) where
+  -- it is enough to look at the steps at the corner
+  changed-lawful : ((u : Corner) → IsTrue (is_step R u v) → IsMildRise R.kind (height R numbers u) (height R numbers v +ℤ more))
+      → ((w : Corner) → IsTrue (is_step R v w) → IsMildRise R.kind (height R numbers v +ℤ more) (height R numbers w)) → AreLawful R others
+  changed-lawful to from = record {
+    heights = changed.heights;
+    balanced = lawful.balanced;
+    boundary = prefixes;
+    modulo = λ u w e. (mild u w e).0;
+    least = λ u w e. (mild u w e).1;
+  }
+    where
+      mild : (u w : Corner) → IsTrue (is_step R u w) → IsMildRise R.kind (height R others u) (height R others w)
+      mild u w e = go (corner_eq u v) (corner_eq w v) refl refl
+        where
+          at : (x : Corner) → corner_eq x v ≡ true → height R others x ≡ height R numbers v +ℤ more
+          at x h = ap (height R others) (corner_eq-same x v h) ∙ changed.here
+
+          off : (x : Corner) → is_corner_of R x ≡ true → corner_eq x v ≡ false → height R others x ≡ height R numbers x
+          off x i h = changed.elsewhere x i h
+
+          moved : (x y x' y' : ℤ) → x' ≡ x → y' ≡ y → IsMildRise R.kind x y → IsMildRise R.kind x' y'
+          moved x y x' y' p q r = subst (λ (z : ℤ). IsMildRise R.kind z y') (sym p) (subst (λ (z : ℤ). IsMildRise R.kind x z) (sym q) r)
+
+          go : (s t : Bool) → corner_eq u v ≡ s → corner_eq w v ≡ t → IsMildRise R.kind (height R others u) (height R others w)
+          go true true p q =
+              let same : w ≡ u = corner_eq-same w v q ∙ sym (corner_eq-same u v p) in
+              let here : IsTrue (is_step R u u) = subst (λ (x : Corner). IsTrue (is_step R u x)) same e in
+              absurd (step-one_way R.kind u u (step-out R u u here) (step-out R u u here))
+          go true false p q =
+              moved (height R numbers v +ℤ more) (height R numbers w) (height R others u) (height R others w) (at u p) (off w (step-ends R u w e).1 q)
+              (from w (subst (λ (x : Corner). IsTrue (is_step R x w)) (corner_eq-same u v p) e))
+          go false true p q =
+              moved (height R numbers u) (height R numbers v +ℤ more) (height R others u) (height R others w) (off u (step-ends R u w e).0 p) (at w q)
+              (to u (subst (λ (x : Corner). IsTrue (is_step R u x)) (corner_eq-same w v q) e))
+          go false false p q =
+              moved (height R numbers u) (height R numbers w) (height R others u) (height R others w) (off u (step-ends R u w e).0 p) (off w (step-ends R u w e).1 q)
+              (lawful.modulo u w e, lawful.least u w e)
+
+      prefixes : (walk : List Side) (k : ℕ) (w : Corner) → IsCircuit R walk → slice_get (circuit_corners walk) k ≡ Some w → height R others w ≡ prefix walk k
+      prefixes walk k w c e = go (In-map_parts (λ (s : Side). s.from) w walk (slice_get-In (circuit_corners walk) k w e))
+        where
+          go : (s : Side) × In s walk × (w ≡ s.from) → height R others w ≡ prefix walk k
+          go (s, i, same) =
+              let edge : In s (boundary R) = walk-boundary R (Distinct-cells R accepted.placed) walk c s i in
+              let of_region : is_corner_of R w ≡ true = subst (λ (x : Corner). is_corner_of R x ≡ true) (sym same) (boundary-corner R s edge) in
+              let off : corner_eq w v ≡ false = false_from_ne_true (corner_eq w v) (λ h. inner-off_boundary R v inner s edge (sym same ∙ corner_eq-same w v h)) in
+              changed.elsewhere w of_region off ∙ lawful.boundary walk k w c e
+
+-- along a step that falls the heights fall by the rise less 1
+pub fall-value : (R : Region) (numbers : List ℤ) → AreLawful R numbers → (u w : Corner) → IsTrue (is_step R u w) → int_lt (height R numbers w) (height R numbers u) ≡ true
+    → height R numbers w ≡ height R numbers u +ℤ negsuc (rise R.kind - 2)
+fall-value R numbers lawful u w e falls = go (is_step-parts R u w e)
+  where
+    go : (a : Cell) × In a R.cells × In (u, w) (steps_round R.kind a) → height R numbers w ≡ height R numbers u +ℤ negsuc (rise R.kind - 2)
+    go (a, i, j) =
+        falls-by R (height R numbers) (record { modulo = lawful.modulo; least = lawful.least }) a (u, w) i j
+        ∙ ap (λ (t : Bool). height R numbers u +ℤ cond t (negsuc (rise R.kind - 2)) (pos 1)) falls
+
+pub raised-lawful : (R : Region) (numbers others : List ℤ) (v : Corner) → Accepted R → AreLawful R numbers → IsTrue (is_inner R v)
+    → IsTrue (falls_to R numbers v) → IsChangedAt R numbers others v (pos (rise R.kind)) → AreLawful R others
+raised-lawful R numbers others v accepted lawful inner low changed =
+    changed-lawful R numbers others v (pos (rise R.kind)) accepted lawful inner changed
+    (λ u e. up R.kind (height R numbers u) (height R numbers v)
+    (fall-value R numbers lawful u v e (In-list_all (λ u. int_lt (height R numbers v) (height R numbers u)) (steps_in R.kind v) u low (step-in R u v e))))
+    (λ w e. on R.kind (height R numbers v) (height R numbers w) (lawful.modulo v w e) (lawful.least v w e))
+  where
+    up : (k : Kind) (x y : ℤ) → y ≡ x +ℤ negsuc (rise k - 2) → IsMildRise k x (y +ℤ pos (rise k))
+    up Square x y e = ((pos 0, omega (arith, ints, e)), omega (arith, ints, e))
+    up Triangle x y e = ((pos 0, omega (arith, ints, e)), omega (arith, ints, e))
+
+    on : (k : Kind) (x y : ℤ) → (m : ℤ) × (y ≡ (x +ℤ pos 1) +ℤ (pos (rise k) *ℤ m)) → y ≤ℤ (x +ℤ pos 1) → IsMildRise k (x +ℤ pos (rise k)) y
+    on Square x y (m, e) l = ((m +ℤ negsuc 0, omega (arith, ints, e)), omega (arith, ints, l))
+    on Triangle x y (m, e) l = ((m +ℤ negsuc 0, omega (arith, ints, e)), omega (arith, ints, l))
+
+pub lowered-lawful : (R : Region) (numbers others : List ℤ) (v : Corner) → Accepted R → AreLawful R numbers → IsTrue (is_inner R v)
+    → IsTrue (falls_from R numbers v) → IsChangedAt R numbers others v (negsuc (rise R.kind - 1)) → AreLawful R others
+lowered-lawful R numbers others v accepted lawful inner high changed =
+    changed-lawful R numbers others v (negsuc (rise R.kind - 1)) accepted lawful inner changed
+    (λ u e. on R.kind (height R numbers u) (height R numbers v) (lawful.modulo u v e) (lawful.least u v e))
+    (λ w e. down R.kind (height R numbers v) (height R numbers w)
+    (fall-value R numbers lawful v w e (In-list_all (λ w. int_lt (height R numbers w) (height R numbers v)) (present (steps_out R.kind v)) w high (step-out R v w e))))
+  where
+    down : (k : Kind) (x y : ℤ) → y ≡ x +ℤ negsuc (rise k - 2) → IsMildRise k (x +ℤ negsuc (rise k - 1)) y
+    down Square x y e = ((pos 0, omega (arith, ints, e)), omega (arith, ints, e))
+    down Triangle x y e = ((pos 0, omega (arith, ints, e)), omega (arith, ints, e))
+
+    on : (k : Kind) (x y : ℤ) → (m : ℤ) × (y ≡ (x +ℤ pos 1) +ℤ (pos (rise k) *ℤ m)) → y ≤ℤ (x +ℤ pos 1) → IsMildRise k x (y +ℤ negsuc (rise k - 1))
+    on Square x y (m, e) l = ((m +ℤ negsuc 0, omega (arith, ints, e)), omega (arith, ints, l))
+    on Triangle x y (m, e) l = ((m +ℤ negsuc 0, omega (arith, ints, e)), omega (arith, ints, l))

@@ -1,0 +1,79 @@
+//! Why a tiling has heights: the closing lemma, and tilings and lawful heights as two views of one thing.
+//!
+//! The crate has no code to run. Each of its functions has an empty body, and its contract is a theorem.
+//! `docs/CLOSING.md` tells the proofs.
+#![tactic(auto)]
+
+ghost use Rattle.std.specs.Prelude.{◌≡◌, ◌+◌, ◌-◌, ◌*◌, List, ℤ, pos, negsuc, ◌+ℤ◌, ◌≤ℤ◌, IsTrue};
+ghost use Rattle.tl_definitions.specs.declared.Corner.{Corner};
+ghost use Rattle.tl_definitions.specs.declared.Tile.{Tile};
+ghost use Rattle.tl_definitions.specs.Region.{Region, is_corner_of, is_inner};
+ghost use Rattle.tl_definitions.specs.Accepted.{Accepted, cell_count};
+ghost use Rattle.tl_definitions.specs.Tiling.{is_tiling};
+ghost use Rattle.tl_definitions.specs.Heights.{rise, height, AreHeights, AreLawful};
+ghost use Rattle.tl_definitions.specs.Flip.{stands_high, stands_low, flip};
+ghost use Rattle.tl_closing.specs.Changed.{IsChangedAt};
+ghost use Rattle.tl_closing.specs.Standing.{falls_from, falls_to};
+ghost use Rattle.tl_closing.specs.Closing.{ClosesRoundCells, IsPotential, HasOnePotential};
+
+/// The closing lemma. Let each directed step along an edge of an accepted region have a whole number, its
+/// difference, such that the differences round each cell of the region add up to 0. Then there is a function on the
+/// corners that rises by the difference along each step and is 0 at a given corner of the region, and on the
+/// region's corners it is the only one. No other differences have such a function.
+pub fn closing_lemma()
+    ensures one_potential { (R : Region) → Accepted R → (difference : Corner → Corner → ℤ) → ClosesRoundCells R difference
+        → (start : Corner) → IsTrue (is_corner_of R start) → HasOnePotential R difference start }
+    ensures no_other { (R : Region) (difference : Corner → Corner → ℤ) (start : Corner) (h : Corner → ℤ) → IsPotential R difference start h
+        → ClosesRoundCells R difference }
+{}
+
+/// Tilings of an accepted region and lawful heights correspond one to one: each tiling has heights and no two,
+/// these are lawful, and lawful heights are those of exactly one tiling.
+///
+/// Heights after W. P. Thurston, "Conway's Tiling Groups".
+pub fn tilings_and_lawful_heights()
+    ensures heights { (R : Region) (A : List Tile) → Accepted R → IsTrue (is_tiling R A)
+        → (numbers : List ℤ) × AreHeights R A numbers × ((others : List ℤ) → AreHeights R A others → others ≡ numbers) }
+    ensures lawful { (R : Region) (A : List Tile) (numbers : List ℤ) → Accepted R → IsTrue (is_tiling R A) → AreHeights R A numbers
+        → AreLawful R numbers }
+    ensures tiling { (R : Region) (numbers : List ℤ) → Accepted R → AreLawful R numbers
+        → (A : List Tile) × IsTrue (is_tiling R A) × AreHeights R A numbers
+        × ((B : List Tile) → IsTrue (is_tiling R B) → AreHeights R B numbers → B ≡ A) }
+{}
+
+/// At an inner corner a tiling stands high exactly where its heights fall along all steps from the corner, and low
+/// exactly where they fall along all steps to it.
+pub fn standing_by_heights()
+    ensures high { (R : Region) (A : List Tile) (numbers : List ℤ) (v : Corner) → IsTrue (is_tiling R A) → AreHeights R A numbers
+        → IsTrue (is_inner R v) → stands_high R A v ≡ falls_from R numbers v }
+    ensures low { (R : Region) (A : List Tile) (numbers : List ℤ) (v : Corner) → IsTrue (is_tiling R A) → AreHeights R A numbers
+        → IsTrue (is_inner R v) → stands_low R A v ≡ falls_to R numbers v }
+{}
+
+/// Lawful heights stay lawful where one of them, at an inner corner, is raised by the rise of a flip and they fall along
+/// all steps to the corner, or is lowered by it and they fall along all steps from the corner.
+pub fn raising_and_lowering()
+    ensures raised { (R : Region) (numbers others : List ℤ) (v : Corner) → Accepted R → AreLawful R numbers → IsTrue (is_inner R v)
+        → IsTrue (falls_to R numbers v) → IsChangedAt R numbers others v (pos (rise R.kind)) → AreLawful R others }
+    ensures lowered { (R : Region) (numbers others : List ℤ) (v : Corner) → Accepted R → AreLawful R numbers → IsTrue (is_inner R v)
+        → IsTrue (falls_from R numbers v) → IsChangedAt R numbers others v (negsuc (rise R.kind - 1)) → AreLawful R others }
+{}
+
+/// Lawful heights are small: between -n and n, for n four times the number of cells and three times the column.
+pub fn lawful_heights_are_small()
+    ensures below { (R : Region) (numbers : List ℤ) (v : Corner) → Accepted R → AreLawful R numbers → IsTrue (is_corner_of R v)
+        → height R numbers v ≤ℤ pos (4 * cell_count R + 3 * v.x) }
+    ensures above { (R : Region) (numbers : List ℤ) (v : Corner) → Accepted R → AreLawful R numbers → IsTrue (is_corner_of R v)
+        → pos 0 ≤ℤ (height R numbers v +ℤ pos (4 * cell_count R + 3 * v.x)) }
+{}
+
+/// A flip changes one height. Where a tiling stands low, its heights with the one at that corner raised by the rise of
+/// a flip are the heights of the flipped tiling; where it stands high, those with the one at that corner lowered by it.
+pub fn flips_change_one_height()
+    ensures up { (R : Region) (A : List Tile) (numbers others : List ℤ) (v : Corner) → Accepted R → IsTrue (is_tiling R A) → AreHeights R A numbers
+        → IsTrue (stands_low R A v) → IsChangedAt R numbers others v (pos (rise R.kind))
+        → IsTrue (is_tiling R (flip R A v)) × AreHeights R (flip R A v) others }
+    ensures down { (R : Region) (A : List Tile) (numbers others : List ℤ) (v : Corner) → Accepted R → IsTrue (is_tiling R A) → AreHeights R A numbers
+        → IsTrue (stands_high R A v) → IsChangedAt R numbers others v (negsuc (rise R.kind - 1))
+        → IsTrue (is_tiling R (flip R A v)) × AreHeights R (flip R A v) others }
+{}
