@@ -48,7 +48,7 @@ input() {
 run() {
     local start end
     start=$(date +%s%N)
-    /usr/bin/time -f '%M' -o "$work/memory" ./crates/tilings/out/tilings check <"$1" >"$work/reply" || true
+    env time -f '%M' -o "$work/memory" ./crates/tilings/out/tilings check <"$1" >"$work/reply" || true
     end=$(date +%s%N)
     echo "$((end - start)) $(tail -n 1 "$work/memory")"
 }
