@@ -249,3 +249,43 @@ fn a_failed_write_cuts_the_reply(rt: HostRuntime) -> Result<(), AllocError> {
     assert_eq!(rt; status, Status::WriteFault);
     Ok(())
 }
+
+// A spiral that winds inwards, one cell wide: every second ring of cells round the middle, each led into the next.
+fn spiral(alloc: Global) -> Result<Vec<u8>, AllocError> {
+    let mut text = Vec::from_slice(alloc, b"square\n")?;
+    for r in 0..512u32 {
+        for c in 0..512u32 {
+            let ring = r.min(c).min(511 - r).min(511 - c);
+            let leads_in = ring == c && r == c + 1;
+            let inside = (ring % 2 == 0) != leads_in;
+            text.push(if inside { b'#' } else { b'.' })?;
+        }
+        text.push(b'\n')?;
+    }
+    Ok(text)
+}
+
+// A full row, from which every second column hangs down.
+fn comb(alloc: Global) -> Result<Vec<u8>, AllocError> {
+    let mut text = Vec::from_slice(alloc, b"square\n")?;
+    for r in 0..512u32 {
+        for c in 0..512u32 {
+            text.push(if r == 0 || c % 2 == 0 { b'#' } else { b'.' })?;
+        }
+        text.push(b'\n')?;
+    }
+    Ok(text)
+}
+
+#[test]
+fn long_and_winding_regions_are_accepted(rt: HostRuntime) -> Result<(), AllocError> {
+    let mut strip = Vec::from_slice(rt.alloc(), b"triangle\n")?;
+    strip.extend_from_slice(vec![in rt.alloc(); b'#'; 512]?.as_slice())?;
+    let cell = Vec::from_slice(rt.alloc(), b"square\n#")?;
+    for input in [spiral(rt.alloc())?, comb(rt.alloc())?, strip, cell] {
+        let (status, sink) = check(&rt, rt.alloc(), input.as_slice())?;
+        assert_eq!(rt; sink.held(), b"drawing 1 bad letter 0 0\n".as_slice());
+        assert_eq!(rt; status, Status::Input);
+    }
+    Ok(())
+}
