@@ -1,9 +1,2 @@
-mod InnerLemmas
-mod FloodLemmas
-mod GridLemmas
-mod CornerScans
-mod EulerCounts
-mod MarkLemmas
-mod WalkLemmas
 mod RowLemmas
 mod TextLemmas

@@ -1,19 +1,10 @@
 //! Regions: finitely many cells of one lattice, read from a text.
 #![tactic(auto)]
 
-mod circuit;
-mod corner_marks;
-mod euler;
 mod fault;
-mod flags;
-mod grid;
 mod header;
-mod inner;
-mod parts;
-mod pinch;
 mod reading;
 mod region;
-mod rings;
 mod rows;
 mod rules;
 

@@ -3,7 +3,7 @@
 ghost use Rattle.std.specs.Prelude.{◌≡◌, ◌≤◌, ◌^◌, length, IfOk, IfErr, IfSome};
 ghost use Rattle.tl_definitions.specs.Input.{first_section, taken};
 ghost use Rattle.tl_lines.specs.Lines.{section_at};
-ghost use Rattle.tl_region.specs.Grid.{IsKept};
+ghost use Rattle.tl_grid.specs.Grid.{IsKept};
 ghost use Rattle.tl_region.specs.Refusals.{refusal_by};
 ghost use Rattle.tl_definitions.specs.Accepted.{IsPlaced};
 ghost use Rattle.tl_definitions.specs.RegionText.{IsRegionText, IsRefusedText};
@@ -11,14 +11,12 @@ ghost use Rattle.tl_region.specs.Rows.{region_by, HasAllowedSize, HasRefusedSize
 ghost use Rattle.tl_region.specs.Texts.{IsReadableText, IsUnreadableText};
 
 use crate::fault::RegionFault;
-use crate::flags::flags_of;
-use crate::grid::Grid;
 use crate::header::kind_of;
-use crate::inner::inner_of;
 use crate::region::Region;
 use crate::rows::{Rows, read_rows};
 use crate::rules::check_rules;
 use std::alloc::Global;
+use tl_grid::{Grid, flags_of, inner_of};
 use tl_lattice::Kind;
 use tl_lines::cut_line;
 

@@ -4,12 +4,11 @@ ghost use Rattle.std.specs.Prelude.{◌≡◌, ◌<◌, length, slice_get, posit
 ghost use Rattle.tl_definitions.specs.Accepted.{Accepted};
 ghost use Rattle.tl_definitions.specs.Lattice.{corner_eq};
 ghost use Rattle.tl_definitions.specs.Region.{has, inner_corners};
-ghost use Rattle.tl_region.specs.Grid.{IsKept};
-ghost use Rattle.tl_region.specs.Inner.{IsInnerOf};
+ghost use Rattle.tl_grid.specs.Grid.{IsKept};
+ghost use Rattle.tl_grid.specs.Inner.{IsInnerOf};
 
-use crate::grid::Grid;
-use crate::inner::Inner;
 use std::marker::Model;
+use tl_grid::{Grid, Inner};
 use tl_lattice::{Cell, Corner, Kind};
 
 /// An accepted region: finitely many cells of one lattice, at least one, in one piece without pinch and without
@@ -22,8 +21,8 @@ pub struct Region {
 
 impl Model for Region {
     ghost use Rattle.tl_definitions.specs.Region as shape;
-    ghost use Rattle.tl_region.specs.Grid.{IsKept};
-    ghost use Rattle.tl_region.specs.Inner.{IsInnerOf};
+    ghost use Rattle.tl_grid.specs.Grid.{IsKept};
+    ghost use Rattle.tl_grid.specs.Inner.{IsInnerOf};
     ghost use Rattle.tl_definitions.specs.Accepted.{Accepted};
 
     ghost Value = { shape.Region };

@@ -2,11 +2,9 @@
 
 ghost use Rattle.std.specs.Prelude.{◌≤◌, ◌^◌, length};
 
-use crate::circuit::has_one_circuit;
-use crate::euler::has_euler_one;
-use crate::pinch::first_pinch;
 use crate::reading::read_grid;
 use std::alloc::{AllocError, Global};
+use tl_grid::{first_pinch, has_euler_one, has_one_circuit};
 use tl_lattice::Corner;
 
 // Where the text is that of a region: its first pinch.

@@ -3,16 +3,12 @@
 ghost use Rattle.std.specs.Prelude.{◌≡◌, IfErr, IfSome, OnOk};
 ghost use Rattle.tl_definitions.specs.Accepted.{Accepted};
 ghost use Rattle.tl_definitions.specs.RegionText.{BreaksRule};
-ghost use Rattle.tl_region.specs.Grid.{IsKept};
+ghost use Rattle.tl_grid.specs.Grid.{IsKept};
 ghost use Rattle.tl_region.specs.Refusals.{refusal_by};
 
-use crate::circuit::has_one_circuit;
-use crate::euler::has_euler_one;
 use crate::fault::RegionFault;
-use crate::grid::Grid;
-use crate::parts::first_parted;
-use crate::pinch::first_pinch;
 use std::alloc::Global;
+use tl_grid::{Grid, first_parted, first_pinch, has_euler_one, has_one_circuit};
 
 /// Asks the rules of an accepted region in their order. That there is a cell holds of each grid.
 ///

@@ -2,11 +2,11 @@
 
 ghost use Rattle.std.specs.Prelude.{◌≤◌, ◌^◌, length};
 
-use crate::parts::first_parted;
 use crate::reading::read_grid;
 use crate::{Region, RegionFault, read_region, rest_is_empty};
 use std::alloc::{AllocError, Global};
 use std::test::Fail;
+use tl_grid::first_parted;
 use tl_lattice::{Cell, Corner, Kind};
 
 fn fault_of(alloc: Global, text: &[u8]) -> Option<RegionFault>

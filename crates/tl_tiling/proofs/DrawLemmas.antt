@@ -13,7 +13,7 @@ use Rattle.tl_definitions.specs.Tiling.{partner, is_tile, is_tiling, covers, oth
 use Rattle.tl_definitions.specs.Drawing.{named, named_at, Draws, is_matched, first_unmatched, drawing_refusal, DrawingRefusal, unmatched, letter}
 use Rattle.tl_definitions.proofs.Partners.{IsMatched, tiles_by-tiling, partner-tiles_by}
 use Rattle.tl_definitions.proofs.Drawings.{AgreeOn, all-matched, find-none, drawn, refused-bad_letter, refused-unmatched, refused-none, first_unmatched-same, tiles_by-same, letter-named}
-use Rattle.tl_region.specs.Grid.{IsKept}
+use Rattle.tl_grid.specs.Grid.{IsKept}
 use Rattle.tl_tiling.specs.Letters.{letter_at, partner_in, AreLetters, tiles_in, AreReadLetters, IsFirstBadLetter}
 
 -- the letters name the partners that the lines name

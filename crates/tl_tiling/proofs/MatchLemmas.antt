@@ -14,7 +14,7 @@ use Rattle.tl_definitions.specs.Region.{Region, has}
 use Rattle.tl_definitions.proofs.Partners.{has-within}
 use Rattle.tl_definitions.proofs.Sublists.{cell_eq-refl}
 use Rattle.tl_lattice.specs.Places.{padded}
-use Rattle.tl_region.specs.Grid.{IsKept}
+use Rattle.tl_grid.specs.Grid.{IsKept}
 
 or_false : (b : Bool) → (b || false) ≡ b
 or_false true = refl

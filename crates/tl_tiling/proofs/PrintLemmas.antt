@@ -12,7 +12,7 @@ use Rattle.tl_definitions.specs.Lattice.{cell}
 use Rattle.tl_definitions.specs.Region.{Region, upto}
 use Rattle.tl_definitions.specs.Tiling.{partner}
 use Rattle.tl_definitions.specs.Drawing.{letter, drawing}
-use Rattle.tl_region.specs.Grid.{IsKept}
+use Rattle.tl_grid.specs.Grid.{IsKept}
 use Rattle.tl_tiling.specs.Letters.{AreLetters, tiles_in}
 use Rattle.tl_tiling.proofs.DrawLemmas.{letter-is}
 

@@ -20,7 +20,7 @@ use Rattle.tl_definitions.proofs.Lines.{without_end-last, without_end-other, ope
 use Rattle.tl_definitions.proofs.Drawings.{is_cell-same}
 use Rattle.tl_definitions.proofs.Sublists.{In}
 use Rattle.tl_definitions.proofs.Partners.{has-within, In-has}
-use Rattle.tl_region.specs.Grid.{IsKept}
+use Rattle.tl_grid.specs.Grid.{IsKept}
 use Rattle.tl_tiling.specs.Printed.{BeginsNoLine}
 use Rattle.tl_tiling.proofs.TilingLemmas.{TilingParts, tiling-parts, tiling-matched, partner-outside, draws-same, draws-not_refused}
 

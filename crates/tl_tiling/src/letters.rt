@@ -5,7 +5,7 @@ ghost use Rattle.tl_definitions.specs.Region.{has};
 ghost use Rattle.tl_definitions.specs.RegionText.{is_blank as is_blank_byte};
 ghost use Rattle.tl_definitions.specs.Drawing.{is_letter as is_letter_byte, first_bad_letter};
 ghost use Rattle.tl_definitions.specs.Marks.{row_part};
-ghost use Rattle.tl_region.specs.Grid.{IsKept};
+ghost use Rattle.tl_grid.specs.Grid.{IsKept};
 ghost use Rattle.tl_tiling.specs.Letters.{is_allowed_in, ReadsLine, AreReadBefore, HasNoCellFrom, IsFirstCellFrom, AreReadLetters, IsFirstBadLetter};
 ghost use Rattle.tl_tiling.specs.Refusals.{refusal_by};
 ghost use Rattle.tl_lines.specs.Lines.{section_at};

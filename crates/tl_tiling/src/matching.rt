@@ -2,7 +2,7 @@
 
 ghost use Rattle.std.specs.Prelude.{◌≡◌, ◌*◌, ◌<◌, ◌≤◌, ◌^◌, not, length, find, IsTrue};
 ghost use Rattle.std.specs.List.{list_any};
-ghost use Rattle.tl_region.specs.Grid.{IsKept};
+ghost use Rattle.tl_grid.specs.Grid.{IsKept};
 ghost use Rattle.tl_definitions.specs.Lattice.{is_cell as is_same_cell, are_neighbours as share_a_side};
 ghost use Rattle.tl_definitions.specs.Region.{has};
 ghost use Rattle.tl_definitions.specs.Drawing.{named as named_by, is_matched as is_matched_by};

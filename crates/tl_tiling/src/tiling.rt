@@ -4,7 +4,7 @@ ghost use Rattle.std.specs.Prelude.{◌≡◌, ◌+◌, ◌*◌, [], ◌∷◌, 
 ghost use Rattle.tl_definitions.specs.Region.{has};
 ghost use Rattle.tl_definitions.specs.Tiling.{partner, is_tiling};
 ghost use Rattle.tl_definitions.specs.Drawing.{drawing};
-ghost use Rattle.tl_region.specs.Grid.{IsKept};
+ghost use Rattle.tl_grid.specs.Grid.{IsKept};
 
 use crate::matching::partner_in;
 use std::marker::Model;
@@ -20,7 +20,7 @@ pub struct Tiling<'a> {
 
 impl<'a> Model for Tiling<'a> {
     ghost use Rattle.tl_definitions.specs.Tiling.{Tiled};
-    ghost use Rattle.tl_region.specs.Grid.{IsKept};
+    ghost use Rattle.tl_grid.specs.Grid.{IsKept};
     ghost use Rattle.tl_tiling.specs.Letters.{AreLetters, tiles_in};
 
     ghost Value = { Tiled };

@@ -2,7 +2,7 @@ use Rattle.std.proofs.Common.{◌≡◌, false}
 use Rattle.std.specs.Prelude.{is_some}
 use Rattle.tl_definitions.specs.Region.{corner_places}
 use Rattle.tl_definitions.specs.Accepted.{is_pinch}
-use Rattle.tl_region.proofs.CornerScans.{none-found}
+use Rattle.tl_grid.proofs.CornerScans.{none-found}
 use Rattle.tl_region.proofs.rule_tests.circuit_of.Goals as goal
 
 pub has_one_circuit-requires : goal.has_one_circuit-requires

@@ -1,5 +1,5 @@
 use Rattle.std.proofs.Common.{arith, length, ap}
-use Rattle.tl_region.proofs.InnerLemmas.{few_inner}
+use Rattle.tl_grid.proofs.InnerLemmas.{few_inner}
 use Rattle.tl_region.proofs.region.Region.inner_count.Goals as goal
 
 pub overflow_cast-result : goal.overflow_cast-result

@@ -1,0 +1,116 @@
+-- The flags of a rectangle, and what the cells of a region that was read are.
+use Rattle.std.proofs.Common.{◌≡◌, ℕ, zero, suc, ◌+◌, ◌*◌, ◌/◌, ◌<◌, ◌≤◌, ◌⊎◌, inl, inr, Bool, true, false, ◌||◌, List, [], ◌∷◌, map, length, take, refl, sym, ◌∙◌, ap, arith, get_or, replicate}
+use Rattle.std.specs.Prelude.{slice_set, filter, flat_map, All}
+use Rattle.std.specs.List.{list_any, range_with_len}
+use Rattle.std.proofs.lemmas.Bool.{false_from_ne_true}
+use Rattle.std.proofs.lemmas.Nat.{mul-add-lt, div-mul-add}
+use Rattle.std.proofs.lemmas.List.{get_or-set_same, get_or-set_other, take_more, length-set, length-append, length-replicate}
+use Rattle.std.proofs.lemmas.List.Folds.{list_any-append}
+use Rattle.std.proofs.lemmas.List.Sums.{length-filter, count_by-le-length}
+use Rattle.std.proofs.lemmas.List.FromFn.{length-map-range_with_len}
+use Rattle.std.proofs.Math.Nat.{mul_comm, mul-le-mul}
+use Rattle.tl_definitions.specs.declared.Cell.{Cell}
+use Rattle.tl_definitions.specs.Lattice.{cell, cell_eq}
+use Rattle.tl_definitions.specs.Region.{Region, has, places, upto}
+use Rattle.tl_definitions.proofs.Regions.{same_test, has-within, cell_eq-parts, cell_eq-of_parts, nat_cases, or-left, or-right}
+use Rattle.tl_definitions.specs.Accepted.{IsPlaced}
+use Rattle.tl_grid.specs.Grid.{flag_at, AreFlagsOf, IsKept}
+
+-- two cells with one place in a row-major list are the same
+pub same_place : (a b : Cell) (w : ℕ) → a.c < w → b.c < w → a.r * w + a.c ≡ b.r * w + b.c → (a.r ≡ b.r) × (a.c ≡ b.c)
+same_place a b w h k e =
+    let rows : a.r ≡ b.r = sym (div-mul-add a.r w a.c h) ∙ ap (λ (n : ℕ). n / w) e ∙ div-mul-add b.r w b.c k in
+    let start : a.r * w ≡ b.r * w = ap (λ (n : ℕ). n * w) rows in
+    (rows, omega (arith, e, start))
+
+or_true : (b : Bool) → (b || true) ≡ true
+or_true true = refl
+or_true false = refl
+
+or_false : (b : Bool) → (b || false) ≡ b
+or_false true = refl
+or_false false = refl
+
+list_any-more : {A : Type 0} (p : A → Bool) (xs : List A) (i : ℕ) (d : A) → i < length xs → list_any p (take (i + 1) xs) ≡ (list_any p (take i xs) || p (get_or xs i d))
+list_any-more p xs i d h =
+    ap (list_any p) (take_more xs i d h) ∙ (list_any-append p (take i xs) (get_or xs i d ∷ []) ∙ ap (λ (b : Bool). list_any p (take i xs) || b) (or_false (p (get_or xs i d))))
+
+-- no flag is set
+pub no_flags : (rows columns : ℕ) (flags : List Bool) → flags ≡ replicate (rows * columns) false → AreFlagsOf rows columns [] flags
+no_flags rows columns flags e = record {
+  size = ap length e ∙ length-replicate (rows * columns) false;
+  is_set = λ a h k. ap (λ (l : List Bool). get_or l (a.r * columns + a.c) false) e ∙ get_or-replicate_same (rows * columns) (a.r * columns + a.c);
+}
+  where
+    get_or-replicate_same : (n i : ℕ) → get_or (replicate n false) i false ≡ false
+    get_or-replicate_same zero i = refl
+    get_or-replicate_same (suc n) zero = refl
+    get_or-replicate_same (suc n) (suc i) = get_or-replicate_same n i
+
+-- one flag more is set
+pub flags_more : (rows columns : ℕ) (cells : List Cell) (flags : List Bool) (i : ℕ) (x d : Cell) → i < length cells → x ≡ get_or cells i d
+    → x.r < rows → x.c < columns → AreFlagsOf rows columns (take i cells) flags
+    → AreFlagsOf rows columns (take (i + 1) cells) (slice_set flags (x.r * columns + x.c) true)
+flags_more rows columns cells flags i x d h e xr xc f =
+    let place = x.r * columns + x.c in
+    let within : place < columns * rows = mul-add-lt x.r columns x.c rows xr xc in
+    let room : place < length flags = omega (arith, within, f.size, mul_comm columns rows) in
+    record {
+      size = length-set flags place true ∙ f.size;
+      is_set = λ a ar ac. go a ar ac room (nat_cases (a.r * columns + a.c) place);
+    }
+  where
+    more : (a : Cell) → list_any (cell_eq a) (take (i + 1) cells) ≡ (list_any (cell_eq a) (take i cells) || cell_eq a x)
+    more a = list_any-more (cell_eq a) cells i d h ∙ ap (λ (y : Cell). list_any (cell_eq a) (take i cells) || cell_eq a y) (sym e)
+
+    go : (a : Cell) → a.r < rows → a.c < columns → x.r * columns + x.c < length flags → (a.r * columns + a.c ≡ x.r * columns + x.c) ⊎ (¬ (a.r * columns + a.c ≡ x.r * columns + x.c))
+        → flag_at columns (slice_set flags (x.r * columns + x.c) true) a ≡ list_any (cell_eq a) (take (i + 1) cells)
+    go a ar ac room (inl same) =
+        let at : (a.r ≡ x.r) × (a.c ≡ x.c) = same_place a x columns ac xc same in
+        ap (λ (n : ℕ). get_or (slice_set flags (x.r * columns + x.c) true) n false) same ∙ get_or-set_same flags (x.r * columns + x.c) true false room
+        ∙ sym (more a ∙ ap (λ (b : Bool). list_any (cell_eq a) (take i cells) || b) (cell_eq-of_parts a x at.0 at.1) ∙ or_true (list_any (cell_eq a) (take i cells)))
+    go a ar ac room (inr other) =
+        let differ : cell_eq a x ≡ false = same_test (cell_eq a x) false (λ t. absurd (other (let p : (a.r ≡ x.r) × (a.c ≡ x.c) = cell_eq-parts a x t in place_of p.0 p.1))) (λ t. cc t) in
+        get_or-set_other flags (x.r * columns + x.c) (a.r * columns + a.c) true false other ∙ f.is_set a ar ac
+        ∙ sym (more a ∙ ap (λ (b : Bool). list_any (cell_eq a) (take i cells) || b) differ ∙ or_false (list_any (cell_eq a) (take i cells)))
+      where
+        place_of : a.r ≡ x.r → a.c ≡ x.c → a.r * columns + a.c ≡ x.r * columns + x.c
+        place_of r c = ap (λ (n : ℕ). n * columns + a.c) r ∙ ap (λ (n : ℕ). x.r * columns + n) c
+
+-- ---- the cells of a region that was read
+
+length-places : (rows columns s : ℕ) → length (flat_map (λ r. map (λ c. cell r c) (upto columns)) (range_with_len s rows)) ≡ rows * columns
+length-places zero columns s = omega arith
+length-places (suc rows) columns s =
+    let here : length (map (λ c. cell s c) (upto columns)) ≡ columns = length-map-range_with_len (λ c. cell s c) 0 columns in
+    let rest = length-places rows columns (s + 1) in
+    length-append (map (λ c. cell s c) (upto columns)) (flat_map (λ r. map (λ c. cell r c) (upto columns)) (range_with_len (s + 1) rows))
+    ∙ omega (arith, here, rest)
+
+-- there are few
+pub few_cells : (R : Region) → IsKept R → length R.cells ≤ 262144
+few_cells R k =
+    let count : length R.cells ≤ R.rows * R.columns = few R.cells k.placed in
+    omega (arith, count, mul-le-mul k.rows_within k.columns_within)
+  where
+    few : (cells : List Cell) → cells ≡ filter (has R) (places R.rows R.columns) → length cells ≤ R.rows * R.columns
+    few cells e = omega (arith, ap length e, length-filter (has R) (places R.rows R.columns), count_by-le-length (has R) (places R.rows R.columns), length-places R.rows R.columns 0)
+
+-- no place outside the rectangle is in the region
+pub has-outside : (R : Region) (a : Cell) → IsKept R → ¬ ((a.r < R.rows) × (a.c < R.columns)) → has R a ≡ false
+has-outside R a k out = false_from_ne_true _ (λ e. out (has-within R a k.placed e))
+
+-- each cell is within the rectangle
+pub any-self : (cells : List Cell) (k : ℕ) (d : Cell) → k < length cells → list_any (cell_eq (get_or cells k d)) cells ≡ true
+any-self [] k d h = absurd (omega (arith, h))
+any-self (c ∷ cs) zero d h = or-left _ _ (cell_eq-of_parts c c refl refl)
+any-self (c ∷ cs) (suc k) d h = or-right (cell_eq (get_or cs k d) c) _ (any-self cs k d (omega (arith, h)))
+
+pub cells_within : (R : Region) → IsPlaced R → All (λ a. (a.r < R.rows) × (a.c < R.columns)) R.cells
+cells_within R placed k d h = has-within R (get_or R.cells k d) placed (any-self R.cells k d h)
+
+-- the place of a cell of the region is one of the rectangle's
+pub place-within : (R : Region) (a : Cell) → IsKept R → has R a ≡ true → a.r * R.columns + a.c < R.rows * R.columns
+place-within R a k e =
+    let p : (a.r < R.rows) × (a.c < R.columns) = has-within R a k.placed e in
+    omega (arith, mul-add-lt a.r R.columns a.c R.rows p.0 p.1, mul_comm R.columns R.rows)

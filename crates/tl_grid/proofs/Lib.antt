@@ -1,0 +1,7 @@
+pub mod GridLemmas
+pub mod InnerLemmas
+pub mod CornerScans
+mod FloodLemmas
+mod EulerCounts
+mod MarkLemmas
+mod WalkLemmas

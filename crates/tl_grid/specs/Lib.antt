@@ -1,0 +1,4 @@
+pub mod Grid
+pub mod CornerMarks
+pub mod Flood
+pub mod Inner

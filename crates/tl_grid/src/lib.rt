@@ -1,0 +1,21 @@
+//! A set of cells kept on a flat array, and the questions asked of it: its parts, its pinches, its boundary, its
+//! Euler count and its inner corners.
+#![tactic(auto)]
+
+mod circuit;
+mod corner_marks;
+mod euler;
+mod flags;
+mod grid;
+mod inner;
+mod parts;
+mod pinch;
+mod rings;
+
+pub use circuit::has_one_circuit;
+pub use euler::has_euler_one;
+pub use flags::flags_of;
+pub use grid::Grid;
+pub use inner::{Inner, inner_of};
+pub use parts::first_parted;
+pub use pinch::first_pinch;
