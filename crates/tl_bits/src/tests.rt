@@ -5,7 +5,7 @@ use std::process::Abort;
 use std::test::Fail;
 
 // Each row has a time, a place among its words, and the word there.
-fn words_are<B: Bits>(rt: &impl Abort, bits: &mut B, words: u32, table: &[(u64, u32, u32)])
+fn assert_words<B: Bits>(rt: &impl Abort, bits: &mut B, words: u32, table: &[(u64, u32, u32)])
     requires words { B.words bits.old ≡ words }
     requires few { words ≤ 2 ^ 15 }
 {
@@ -31,9 +31,9 @@ fn each_time_has_the_next_word_of_the_first_block(rt: HostRuntime) {
         (1, 0, 0xade0b876),
     ];
     let mut bits = Numbered::new(0, 0, 1);
-    words_are(&rt, &mut bits, 1, &onwards);
+    assert_words(&rt, &mut bits, 1, &onwards);
     let mut bits = Numbered::new(0, 0, 1);
-    words_are(&rt, &mut bits, 1, &backwards);
+    assert_words(&rt, &mut bits, 1, &backwards);
 }
 
 #[test]
@@ -84,7 +84,7 @@ fn words_of_another_seed_and_sample(rt: HostRuntime) {
         (1, 0, 0x61e9c455),
     ];
     let mut bits = Numbered::new(0x0123456789abcdef, 0xfedcba98, 3);
-    words_are(&rt, &mut bits, 3, &table);
+    assert_words(&rt, &mut bits, 3, &table);
 }
 
 #[test]
@@ -97,7 +97,7 @@ fn the_last_word_of_all(rt: HostRuntime) {
 fn a_list_gives_its_words_and_then_0(rt: HostRuntime) -> Result<(), Fail> {
     let table = [(2, 0, 10), (2, 1, 0), (1, 2, 9), (1, 0, 7), (1 << 30, 2, 0)];
     let mut bits = Listed::new(3, vec![in rt.alloc(); 7, 8, 9, 10]?);
-    words_are(&rt, &mut bits, 3, &table);
+    assert_words(&rt, &mut bits, 3, &table);
     Ok(())
 }
 
