@@ -8,10 +8,11 @@ use Rattle.tl_definitions.specs.Lattice.{corner, is_corner}
 use Rattle.tl_definitions.specs.Region.{Region, corner_places, upto}
 use Rattle.tl_definitions.proofs.NextCorner.{find-none_any}
 
-range-first : (s n : ℕ) → s < n → range_with_len s (n - s) ≡ s ∷ range_with_len (s + 1) (n - (s + 1))
+-- the numbers from one on, and from the end on
+pub range-first : (s n : ℕ) → s < n → range_with_len s (n - s) ≡ s ∷ range_with_len (s + 1) (n - (s + 1))
 range-first s n h = let e : n - s ≡ suc (n - (s + 1)) = omega (arith, h) in ap (λ (m : ℕ). range_with_len s m) e
 
-range-none : (n : ℕ) → range_with_len n (n - n) ≡ []
+pub range-none : (n : ℕ) → range_with_len n (n - n) ≡ []
 range-none n = let e : n - n ≡ 0 = omega arith in ap (λ (m : ℕ). range_with_len n m) e
 
 -- those of the rows from one on

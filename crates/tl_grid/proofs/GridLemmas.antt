@@ -1,6 +1,6 @@
 -- The flags of a rectangle, and what the cells of a region that was read are.
-use Rattle.std.proofs.Common.{◌≡◌, ℕ, zero, suc, ◌+◌, ◌*◌, ◌/◌, ◌<◌, ◌≤◌, ◌⊎◌, inl, inr, Bool, true, false, ◌||◌, List, [], ◌∷◌, map, length, take, refl, sym, ◌∙◌, ap, arith, get_or, replicate}
-use Rattle.std.specs.Prelude.{slice_set, filter, flat_map, All}
+use Rattle.std.proofs.Common.{◌≡◌, ◌≢◌, ℕ, zero, suc, ◌+◌, ◌*◌, ◌/◌, ◌<◌, ◌≤◌, ◌⊎◌, inl, inr, Bool, true, false, ◌||◌, List, [], ◌∷◌, map, length, take, refl, sym, ◌∙◌, ap, arith, get_or, replicate}
+use Rattle.std.specs.Prelude.{◌==◌, slice_set, filter, flat_map, All}
 use Rattle.std.specs.List.{list_any, range_with_len}
 use Rattle.std.proofs.lemmas.Bool.{false_from_ne_true}
 use Rattle.std.proofs.lemmas.Nat.{mul-add-lt, div-mul-add}
@@ -108,6 +108,9 @@ any-self (c ∷ cs) (suc k) d h = or-right (cell_eq (get_or cs k d) c) _ (any-se
 
 pub cells_within : (R : Region) → IsPlaced R → All (λ a. (a.r < R.rows) × (a.c < R.columns)) R.cells
 cells_within R placed k d h = has-within R (get_or R.cells k d) placed (any-self R.cells k d h)
+
+pub not_zero : (n : ℕ) (b : Bool) → b ≡ (n == 0) → b ≡ false → n ≢ 0
+not_zero n b e f z = cc (ap (λ (m : ℕ). m == 0) z, e, f)
 
 -- the place of a cell of the region is one of the rectangle's
 pub place-within : (R : Region) (a : Cell) → IsKept R → has R a ≡ true → a.r * R.columns + a.c < R.rows * R.columns

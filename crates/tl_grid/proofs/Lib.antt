@@ -5,3 +5,4 @@ mod FloodLemmas
 mod EulerCounts
 mod MarkLemmas
 mod WalkLemmas
+mod PictureLemmas

@@ -19,3 +19,6 @@ pub use grid::Grid;
 pub use inner::{Inner, inner_of};
 pub use parts::first_parted;
 pub use pinch::first_pinch;
+
+#[cfg(test)]
+mod rule_tests;

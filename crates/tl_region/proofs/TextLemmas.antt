@@ -1,6 +1,6 @@
 -- What the parts of a region's text tell of the whole.
-use Rattle.std.proofs.Common.{◌≡◌, ◌≢◌, inl, inr, ℕ, Bool, true, false, List, [], ◌∷◌, Option, Some, None, Ok, Err, refl, sym, ◌∙◌, ap, subst}
-use Rattle.std.specs.Prelude.{◌==◌, IfSome, slice_get, if◌then◌else◌}
+use Rattle.std.proofs.Common.{◌≡◌, inl, inr, ℕ, Bool, true, false, List, [], ◌∷◌, Option, Some, None, Ok, Err, refl, sym, ◌∙◌, ap, subst}
+use Rattle.std.specs.Prelude.{IfSome, slice_get, if◌then◌else◌}
 use Rattle.tl_definitions.specs.declared.Kind.{Kind}
 use Rattle.tl_definitions.specs.declared.Cell.{Cell}
 use Rattle.tl_definitions.specs.Region.{Region}
@@ -47,10 +47,6 @@ pub refused_byte : (l : List ℕ) (rows : List (List ℕ)) (k : Kind) (f : Regio
 refused_byte l rows k f e (a, is, first) =
     let bad : first_bad_byte rows ≡ Some a = first_bad_byte-marks rows ∙ first in
     inl (named l rows k e ∙ (rw (bad, region_of_rows) refl ∙ ap (λ (g : RegionRefusal). Err g) (sym is)))
-
--- a number that isn't 0 by a test
-pub not_zero : (n : ℕ) (b : Bool) → b ≡ (n == 0) → b ≡ false → n ≢ 0
-not_zero n b e f z = cc (ap (λ (m : ℕ). m == 0) z, e, f)
 
 -- rows without one name their region, where it isn't too large
 sized : (l : List ℕ) (lines : List (List ℕ)) (k : Kind) (rows : Rows) (large : Bool) → kind_of l ≡ Some k → IsRowsOf lines rows

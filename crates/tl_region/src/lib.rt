@@ -14,6 +14,4 @@ pub use region::Region;
 pub use tl_lines::rest_is_empty;
 
 #[cfg(test)]
-mod rule_tests;
-#[cfg(test)]
 mod tests;

@@ -2,11 +2,9 @@
 
 ghost use Rattle.std.specs.Prelude.{◌≤◌, ◌^◌, length};
 
-use crate::reading::read_grid;
 use crate::{Region, RegionFault, read_region, rest_is_empty};
 use std::alloc::{AllocError, Global};
 use std::test::Fail;
-use tl_grid::first_parted;
 use tl_lattice::{Cell, Corner, Kind};
 
 fn fault_of(alloc: Global, text: &[u8]) -> Option<RegionFault>
@@ -160,43 +158,6 @@ fn a_region_has_at_most_512_rows_and_columns(rt: HostRuntime) -> Result<(), Allo
 fn only_line_ends_may_be_left(rt: HostRuntime) {
     assert!(rt; rest_is_empty(b"\r\n\n"));
     assert!(rt; !rest_is_empty(b"\n#"));
-}
-
-#[test]
-fn the_first_cell_that_is_not_joined_is_named(rt: HostRuntime) -> Result<(), Fail> {
-    let cases: [(&[u8], Option<Cell>); 9] = [
-        (b"square\n#\n", None),
-        (b"square\n#.\n.#\n", Some(Cell { r: 1, c: 1 })),
-        (b"square\n#.#\n..#\n", Some(Cell { r: 0, c: 2 })),
-        (b"square\n#.#\n###\n", None),
-        (b"square\n#####\n....#\n###.#\n#...#\n#####\n", None),
-        (
-            b"square\n#####\n....#\n###.#\n#....\n#####\n",
-            Some(Cell { r: 2, c: 0 }),
-        ),
-        (b"square\n.#\n.#\n", None),
-        (b"triangle\n.#\n.#\n", Some(Cell { r: 1, c: 1 })),
-        (b"triangle\n#.\n#.\n", None),
-    ];
-    for (text, parted) in cases {
-        if text.len() < 100 {
-            let (grid, _) = read_grid(rt.alloc(), text)?;
-            assert_eq!(rt; first_parted(rt.alloc(), &grid)?, parted, "{text:?}");
-        }
-    }
-    Ok(())
-}
-
-#[test]
-fn a_row_and_a_column_of_512_are_in_one_part(rt: HostRuntime) -> Result<(), Fail> {
-    for (columns, rows) in [(512usize, 1usize), (1, 512)] {
-        let text = long_text(rt.alloc(), columns, rows, b"")?;
-        if text.len() <= 4194304 {
-            let (grid, _) = read_grid(rt.alloc(), text.as_slice())?;
-            assert_eq!(rt; first_parted(rt.alloc(), &grid)?, None);
-        }
-    }
-    Ok(())
 }
 
 #[test]

@@ -1,8 +1,7 @@
 use Rattle.std.proofs.Common.{◌<◌, arith, sym, ap, subst, length}
 use Rattle.std.specs.Prelude.{All}
 use Rattle.tl_region.specs.Rows.{region_by}
-use Rattle.tl_grid.proofs.GridLemmas.{cells_within}
-use Rattle.tl_region.proofs.TextLemmas.{not_zero}
+use Rattle.tl_grid.proofs.GridLemmas.{cells_within, not_zero}
 use Rattle.tl_region.proofs.reading.grid_from.Goals as goal
 
 pub flags_of-requires-clause-within : goal.flags_of-requires-clause-within

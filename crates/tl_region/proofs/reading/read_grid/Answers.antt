@@ -1,6 +1,4 @@
-use Rattle.std.proofs.Common.{sym, subst}
-use Rattle.tl_definitions.specs.Input.{first_section}
-use Rattle.tl_region.specs.Texts.{IsReadableText}
+use Rattle.std.proofs.Common.{sym}
 use Rattle.std.proofs.lemmas.Result.{err_from_is_err_and}
 use Rattle.tl_region.specs.Rows.{IsBadByteOf, HasRefusedSize, region_by}
 use Rattle.tl_lines.specs.Lines.{section_at}

@@ -1,6 +1,5 @@
 use Rattle.std.proofs.Common.{◌≡◌, false, Option, None, sym, ◌∙◌, subst}
 use Rattle.std.specs.Prelude.{MatchOption, is_some}
-use Rattle.std.specs.List.{list_any}
 use Rattle.tl_definitions.specs.declared.Cell.{Cell}
 use Rattle.tl_definitions.specs.Region.{Region, corner_places}
 use Rattle.tl_definitions.specs.Accepted.{is_pinch}
