@@ -51,11 +51,13 @@ side-cell k a s i = Each-at (λ s. s.cell ≡ a) s (sides k a) (sides-cells k a)
 -- ---- the boundary and the walk have the same sides
 
 module _ (R : Region) (once : Distinct R.cells) where
+  pub Distinct-all_sides : Distinct (all_sides R)
+  Distinct-all_sides =
+      Distinct-flat_map (sides R.kind) (λ s. s.cell) R.cells (λ a s i. side-cell R.kind a s i)
+      (λ a. Distinct-unmap step_along (sides R.kind a) (round-once R.kind a)) once
+
   Distinct-boundary : Distinct (boundary R)
-  Distinct-boundary =
-      Distinct-filter (is_boundary R) (all_sides R)
-      (Distinct-flat_map (sides R.kind) (λ s. s.cell) R.cells (λ a s i. side-cell R.kind a s i)
-      (λ a. Distinct-unmap step_along (sides R.kind a) (round-once R.kind a)) once)
+  Distinct-boundary = Distinct-filter (is_boundary R) (all_sides R) Distinct-all_sides
 
   module _ (walk : List Side) (circuit : IsCircuit R walk) where
     pub Distinct-walk : Distinct walk

@@ -1,7 +1,8 @@
 -- What meets the closing lemma, and what near it doesn't.
-use Rattle.std.proofs.Common.{◌≡◌, ℕ, true, false, ◌&&◌, List, [], ◌∷◌, refl, sym, ◌∙◌, ap, subst, arith, codes, ℤ, pos, negsuc, ◌+ℤ◌, ◌*ℤ◌}
+use Rattle.std.proofs.Common.{◌≡◌, ℕ, true, false, ◌&&◌, List, [], ◌∷◌, map, refl, sym, ◌∙◌, ap, subst, arith, codes, ℤ, pos, negsuc, ◌+ℤ◌, ◌*ℤ◌}
 use Rattle.std.specs.Prelude.{if◌then◌else◌}
 use Rattle.std.proofs.lemmas.Int.{ints}
+use Rattle.tl_definitions.specs.declared.Kind.{Kind}
 use Rattle.tl_definitions.specs.declared.Kind.TheVariants.{Square, Triangle}
 use Rattle.tl_definitions.specs.declared.Cell.{Cell}
 use Rattle.tl_definitions.specs.declared.Corner.{Corner}
@@ -10,6 +11,7 @@ use Rattle.tl_definitions.specs.Lattice.{cell, corner, corner_eq}
 use Rattle.tl_definitions.specs.Region.{Region}
 use Rattle.tl_definitions.specs.RegionText.{region_of}
 use Rattle.tl_definitions.specs.Accepted.{Accepted, IsCircuit, IsPlaced, HasEulerOne}
+use Rattle.tl_definitions.specs.Obstruction.{int_sum, sign, total}
 use Rattle.tl_definitions.specs.Heights.{height, climb, AreHeights, AreHeightsOf, AreLawful}
 use Rattle.tl_definitions.proofs.Cases.{drawn, walk_of}
 use Rattle.tl_definitions.proofs.Decide.{one_part}
@@ -17,10 +19,12 @@ use Rattle.tl_definitions.proofs.Sublists.{In, Each, Each-at}
 use Rattle.tl_definitions.specs.Flip.{stands_high, stands_low}
 use Rattle.tl_closing.specs.Changed.{IsChangedAt}
 use Rattle.tl_closing.specs.Standing.{falls_from, falls_to}
+use Rattle.tl_closing.specs.Colours.{dark_count, light_count}
 use Rattle.tl_closing.specs.Closing.{sum_round, steps_round, ClosesRoundCells, IsPotential, HasOnePotential}
 use Rattle.tl_closing.proofs.Edges.{vertices, In-vertices, Step, edges, has-In, In-edges, is_step-parts}
 use Rattle.tl_closing.proofs.Numbers.{numbers_of, numbers_of-heights}
 use Rattle.tl_closing.proofs.Heights.{Start, start-of, heights-lawful}
+use Rattle.tl_closing.proofs.Colours.{total-colours, signs-total}
 use Rattle.tl_closing.proofs.Closing.{IsInOnePart, closing, potential-closes}
 
 -- by a look at each cell, and at each edge
@@ -214,3 +218,28 @@ raised_by_3 c = let h : pos 2 ≡ pos 1 = c.here in omega (arith, ints, h)
 
 low_falls : falls_to two_two middle_low (corner 1 1) ≡ true
 low_falls = refl
+
+-- ---- totals
+
+-- one cell of each kind and colour
+abbrev one_cell : Kind → List ℕ → Region
+one_cell k line = region_of k (line ∷ [])
+
+dark_totals : (total (one_cell Square (codes "#")) ≡ pos 4) × (total (one_cell Triangle (codes "#")) ≡ pos 3)
+dark_totals = (refl, refl)
+
+light_totals : (total (one_cell Square (codes ".#")) ≡ negsuc 3) × (total (one_cell Triangle (codes ".#")) ≡ negsuc 2)
+light_totals = (refl, refl)
+
+-- three cells in an angle, two of them light: the law says what the sum over the boundary is
+abbrev angle : Region
+angle = region_of Square (codes "##" ∷ codes "#." ∷ [])
+
+angle_counts : (dark_count angle ≡ 1) × (light_count angle ≡ 2)
+angle_counts = (refl, refl)
+
+angle_total : (total angle ≡ negsuc 3) × (int_sum (map sign (walk_of angle)) ≡ negsuc 3)
+angle_total = (total-colours angle refl, signs-total angle (walk_of angle) refl circuit_angle ∙ total-colours angle refl)
+  where
+    circuit_angle : IsCircuit angle (walk_of angle)
+    circuit_angle = record { on_boundary = refl; whole = refl; closed = refl; once = refl; first = refl }

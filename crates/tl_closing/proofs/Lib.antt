@@ -27,4 +27,5 @@ pub mod RingTiles
 pub mod Exchange
 pub mod Flips
 pub mod Flipped
+pub mod Colours
 mod Examples

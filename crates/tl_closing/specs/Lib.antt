@@ -1,3 +1,4 @@
 pub mod Closing
 pub mod Standing
 pub mod Changed
+pub mod Colours

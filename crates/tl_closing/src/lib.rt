@@ -4,17 +4,20 @@
 //! `docs/CLOSING.md` tells the proofs.
 #![tactic(auto)]
 
-ghost use Rattle.std.specs.Prelude.{◌≡◌, ◌+◌, ◌-◌, ◌*◌, List, ℤ, pos, negsuc, ◌+ℤ◌, ◌≤ℤ◌, IsTrue};
+ghost use Rattle.std.specs.Prelude.{◌≡◌, ◌+◌, ◌-◌, ◌*◌, List, map, ℤ, pos, negsuc, ◌+ℤ◌, ◌-ℤ◌, ◌*ℤ◌, ◌≤ℤ◌, IsTrue};
 ghost use Rattle.tl_definitions.specs.declared.Corner.{Corner};
 ghost use Rattle.tl_definitions.specs.declared.Tile.{Tile};
+ghost use Rattle.tl_definitions.specs.Lattice.{Side};
 ghost use Rattle.tl_definitions.specs.Region.{Region, is_corner_of, is_inner};
-ghost use Rattle.tl_definitions.specs.Accepted.{Accepted, cell_count};
+ghost use Rattle.tl_definitions.specs.Accepted.{Accepted, IsPlaced, IsCircuit, cell_count};
+ghost use Rattle.tl_definitions.specs.Obstruction.{int_sum, sign, total};
 ghost use Rattle.tl_definitions.specs.Tiling.{is_tiling};
 ghost use Rattle.tl_definitions.specs.Heights.{rise, height, AreHeights, AreLawful};
 ghost use Rattle.tl_definitions.specs.Flip.{stands_high, stands_low, flip};
 ghost use Rattle.tl_closing.specs.Changed.{IsChangedAt};
 ghost use Rattle.tl_closing.specs.Standing.{falls_from, falls_to};
 ghost use Rattle.tl_closing.specs.Closing.{ClosesRoundCells, IsPotential, HasOnePotential};
+ghost use Rattle.tl_closing.specs.Colours.{dark_count, light_count};
 
 /// The closing lemma. Let each directed step along an edge of an accepted region have a whole number, its
 /// difference, such that the differences round each cell of the region add up to 0. Then there is a function on the
@@ -76,4 +79,11 @@ pub fn flips_change_one_height()
     ensures down { (R : Region) (A : List Tile) (numbers others : List ℤ) (v : Corner) → Accepted R → IsTrue (is_tiling R A) → AreHeights R A numbers
         → IsTrue (stands_high R A v) → IsChangedAt R numbers others v (negsuc (rise R.kind - 1))
         → IsTrue (is_tiling R (flip R A v)) × AreHeights R (flip R A v) others }
+{}
+
+/// The signs of the boundary edges add up to the rise of a flip times the number of dark cells less that of light ones.
+/// They are those along the circuit.
+pub fn total_by_colours()
+    ensures colours { (R : Region) → IsPlaced R → total R ≡ pos (rise R.kind) *ℤ (pos (dark_count R) -ℤ pos (light_count R)) }
+    ensures along { (R : Region) (walk : List Side) → IsPlaced R → IsCircuit R walk → int_sum (map sign walk) ≡ total R }
 {}
