@@ -8,9 +8,10 @@ use Rattle.tl_definitions.specs.declared.Cell.{Cell}
 use Rattle.tl_definitions.specs.declared.Corner.{Corner}
 use Rattle.tl_definitions.specs.declared.Tile.{Tile}
 use Rattle.tl_definitions.specs.Lattice.{cell, corner, corner_eq}
-use Rattle.tl_definitions.specs.Region.{Region}
+use Rattle.tl_definitions.specs.Region.{Region, is_inner}
 use Rattle.tl_definitions.specs.RegionText.{region_of}
 use Rattle.tl_definitions.specs.Accepted.{Accepted, IsCircuit, IsPlaced, HasEulerOne}
+use Rattle.tl_definitions.specs.Tiling.{is_tiling}
 use Rattle.tl_definitions.specs.Obstruction.{int_sum, sign, total}
 use Rattle.tl_definitions.specs.Heights.{height, climb, AreHeights, AreHeightsOf, AreLawful}
 use Rattle.tl_definitions.proofs.Cases.{drawn, walk_of}
@@ -25,6 +26,7 @@ use Rattle.tl_closing.proofs.Edges.{vertices, In-vertices, Step, edges, has-In, 
 use Rattle.tl_closing.proofs.Numbers.{numbers_of, numbers_of-heights}
 use Rattle.tl_closing.proofs.Heights.{Start, start-of, heights-lawful}
 use Rattle.tl_closing.proofs.Colours.{total-colours, signs-total}
+use Rattle.tl_closing.proofs.Filling.{FromLeft, rise_from_left, fill-inner}
 use Rattle.tl_closing.proofs.Closing.{IsInOnePart, closing, potential-closes}
 
 -- by a look at each cell, and at each edge
@@ -243,3 +245,29 @@ angle_total = (total-colours angle refl, signs-total angle (walk_of angle) refl 
   where
     circuit_angle : IsCircuit angle (walk_of angle)
     circuit_angle = record { on_boundary = refl; whole = refl; closed = refl; once = refl; first = refl }
+
+-- ---- filling
+
+middle_2_from_left : FromLeft two_two level middle_2 (corner 1 1)
+middle_2_from_left = fill-inner two_two level middle_2 refl middle_2_heights (corner 1 1) refl
+
+-- to a corner with an even sum of row and column the step leads from the left, and from one with an odd sum to the left
+even_rises : (rise_from_left two_two level (corner 1 1) ≡ pos 1) × (rise_from_left two_two upright (corner 1 1) ≡ negsuc 2)
+even_rises = (refl, refl)
+
+abbrev two_three : Region
+two_three = region_of Square (codes "###" ∷ codes "###" ∷ [])
+
+odd_rises : (rise_from_left two_three (drawn two_three (codes "><v" ∷ codes "><^" ∷ [])) (corner 1 2) ≡ negsuc 0)
+    × (rise_from_left two_three (drawn two_three (codes "vvv" ∷ codes "^^^" ∷ [])) (corner 1 2) ≡ pos 3)
+odd_rises = (refl, refl)
+
+abbrev hexagon : Region
+hexagon = region_of Triangle (codes "###" ∷ codes "###" ∷ [])
+
+hexagon_rises : (rise_from_left hexagon (drawn hexagon (codes "><v" ∷ codes "><^" ∷ [])) (corner 1 2) ≡ pos 1)
+    × (rise_from_left hexagon (drawn hexagon (codes "v><" ∷ codes "^><" ∷ [])) (corner 1 2) ≡ negsuc 1)
+hexagon_rises = (refl, refl)
+
+hexagon_inner : (is_inner hexagon (corner 1 2) ≡ true) × (is_tiling hexagon (drawn hexagon (codes "v><" ∷ codes "^><" ∷ [])) ≡ true)
+hexagon_inner = (refl, refl)

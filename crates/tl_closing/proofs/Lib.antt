@@ -28,4 +28,5 @@ pub mod Exchange
 pub mod Flips
 pub mod Flipped
 pub mod Colours
+pub mod Filling
 mod Examples

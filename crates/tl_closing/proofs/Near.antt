@@ -13,7 +13,7 @@ use Rattle.tl_closing.proofs.Steps.{less-some}
 use Rattle.tl_closing.proofs.Sides.{left_step, other_steps, steps-table}
 use Rattle.tl_closing.proofs.Centres.{IsCentre, round-centre, cell-one}
 
-cell_same : (a b : Cell) → a.r ≡ b.r → a.c ≡ b.c → a ≡ b
+pub cell_same : (a b : Cell) → a.r ≡ b.r → a.c ≡ b.c → a ≡ b
 cell_same a b p q = λ i. record { r = p i; c = q i }
 
 -- where a light cell lies that has a step in common with a dark one
