@@ -4,5 +4,5 @@ pub mod CornerScans
 mod FloodLemmas
 mod EulerCounts
 mod MarkLemmas
-mod WalkLemmas
+pub mod WalkLemmas
 mod PictureLemmas

@@ -3,14 +3,14 @@ use Rattle.std.proofs.Common.{◌≡◌, ◌+◌, ◌*◌, ◌<◌, Bool, true, 
 use Rattle.std.specs.Prelude.{find, slice_set, is_some}
 use Rattle.std.specs.List.{list_any}
 use Rattle.std.proofs.lemmas.Bool.{and_parts, and_from}
-use Rattle.tl_definitions.specs.declared.Cell.{Cell}
 use Rattle.tl_definitions.specs.declared.Corner.{Corner}
-use Rattle.tl_definitions.specs.Lattice.{corner_eq, is_corner, Side, side}
+use Rattle.tl_definitions.specs.Lattice.{corner_eq, is_corner, Side}
 use Rattle.tl_definitions.specs.Region.{Region, corner_places, boundary}
 use Rattle.tl_definitions.specs.Accepted.{IsPlaced, is_pinch, circuit_corners, IsCircuit}
 use Rattle.tl_definitions.specs.Boundary.{side_from, is_boundary_corner, IsClosedWalk}
 use Rattle.tl_definitions.proofs.Sublists.{In}
-use Rattle.tl_definitions.proofs.CornerRings.{corner_eq-refl}
+use Rattle.tl_definitions.proofs.CornerPlaces.{In-corner_places}
+use Rattle.tl_definitions.proofs.CornerRings.{In-any_of, corner_eq-same, corner_eq-refl}
 use Rattle.tl_definitions.proofs.BoundarySides.{boundary-corners}
 use Rattle.tl_definitions.proofs.NextCorner.{find-In, find-none, none-find}
 use Rattle.tl_definitions.proofs.Walks.{corner-In, In-corner, map-push, IsWalk, walk-start, walk-more, walk-closes}
@@ -21,6 +21,14 @@ use Rattle.tl_grid.proofs.MarkLemmas.{marks-more}
 
 abbrev pub HasNoPinch : Region → Type 0
 HasNoPinch R = list_any (is_pinch R) (corner_places R) ≡ false
+
+-- a corner place is none
+pub no_pinch-at : (R : Region) (v : Corner) → HasNoPinch R → is_corner R.kind v ≡ true → v.r < R.rows + 1 → v.x < R.columns + 2 → is_pinch R v ≡ false
+no_pinch-at R v free c h k = go (is_pinch R v) refl
+  where
+    go : (t : Bool) → is_pinch R v ≡ t → is_pinch R v ≡ false
+    go true e = cc (sym free, In-any_of (is_pinch R) v (corner_places R) (In-corner_places R v c h k) e)
+    go false e = e
 
 -- what holds of a corner that the walk has come to
 pub record IsPassable (R : Region) (v : Corner) : Type 0 where
@@ -57,14 +65,15 @@ marked-start R v m e a =
     let (s, i, same) = boundary-from R v e in
     ([], subst (λ z. IsWalk R z z []) same (walk-start R s i), a)
 
-pub marked-more : (R : Region) (start v : Corner) (m n : CornerMarks) (cell : Cell) (to : Corner) → IsPassable R v → IsMarkedWalk R start v m → is_marked m v ≡ false
-    → Some (side cell v to) ≡ side_from R v → n.flags.items ≡ slice_set m.flags.items (v.r * m.width + v.x) true → n.width ≡ m.width → IsMarkedWalk R start to n
-marked-more R start v m n cell to p (walk, w, a) unmarked is flags width =
-    let s : Side = side cell v to in
-    let i : In s (boundary R) = (find-In (λ t. corner_eq t.from v) (boundary R) s (sym is)).0 in (
+pub marked-more : (R : Region) (start v : Corner) (m n : CornerMarks) (s : Side) → IsPassable R v → IsMarkedWalk R start v m → is_marked m v ≡ false
+    → Some s ≡ side_from R v → n.flags.items ≡ slice_set m.flags.items (v.r * m.width + v.x) true → n.width ≡ m.width → IsMarkedWalk R start s.to n
+marked-more R start v m n s p (walk, w, a) unmarked is flags width =
+    let found = find-In (λ t. corner_eq t.from v) (boundary R) s (sym is) in
+    let here : s.from ≡ v = corner_eq-same s.from v found.1 in (
       walk ++ s ∷ [],
-      walk-more R start s walk i w new,
-      subst (AreMarked R n) (sym (map-push (λ (t : Side). t.from) walk s)) (marks-more R m n v (circuit_corners walk) a p.row p.column flags width),
+      walk-more R start s walk found.0 (subst (λ z. IsWalk R start z walk) (sym here) w) (λ j. new (subst (λ z. In z (circuit_corners walk)) here j)),
+      subst (AreMarked R n) (sym (map-push (λ (t : Side). t.from) walk s))
+      (subst (λ z. AreMarked R n (circuit_corners walk ++ z ∷ [])) (sym here) (marks-more R m n v (circuit_corners walk) a p.row p.column flags width)),
     )
   where
     new : In v (circuit_corners walk) → ⊥

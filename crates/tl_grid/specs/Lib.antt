@@ -2,3 +2,4 @@ pub mod Grid
 pub mod CornerMarks
 pub mod Flood
 pub mod Inner
+pub mod Sides

@@ -2,12 +2,13 @@
 
 ghost use Rattle.std.specs.Prelude.{◌≡◌, ◌+◌, ◌*◌, ◌&&◌, ◌↔◌, ◌<◌, ◌≤◌, ◌^◌, not, find, length, option_map, List, [], IfOk, IsTrue, IsFalse};
 ghost use Rattle.std.specs.List.{list_any};
-ghost use Rattle.tl_definitions.specs.Lattice.{is_corner as is_corner_of_kind, Side, side};
+ghost use Rattle.tl_definitions.specs.Lattice.{is_corner as is_corner_of_kind, Side};
 ghost use Rattle.tl_definitions.specs.Region.{corner_places};
 ghost use Rattle.tl_definitions.specs.Accepted.{is_pinch, circuit_corners, IsCircuit};
 ghost use Rattle.tl_definitions.specs.Gaps.{other_end as other_end_of};
 ghost use Rattle.tl_definitions.specs.Boundary.{side_from, is_boundary_corner as is_boundary_corner_of, IsClosedWalk};
 ghost use Rattle.tl_grid.specs.Grid.{IsKept};
+ghost use Rattle.tl_grid.specs.Sides.{side_of};
 ghost use Rattle.tl_grid.specs.CornerMarks.{is_marked, AreMarked, FitMarks};
 
 use crate::corner_marks::CornerMarks;
@@ -17,10 +18,11 @@ use std::alloc::{AllocError, Global};
 use tl_definitions::Gap;
 use tl_lattice::{Cell, Corner, Kind};
 
-/// A boundary side that leaves a corner with the region on its left: its cell, and the corner to which it goes.
-#[derive(Clone, Copy)]
-pub struct Leaving {
+/// A side of a cell that is a side of no other cell of the region, in the direction that has the region on its left.
+#[derive(Clone, Copy, Debug, PartialEq, Eq)]
+pub struct BoundarySide {
     pub cell: Cell,
+    pub from: Corner,
     pub to: Corner,
 }
 
@@ -46,23 +48,39 @@ fn other_end(kind: Kind, corner: Corner, gap: Gap) -> Corner
 }
 
 /// The boundary side that leaves the corner with the region on its left.
-pub fn side_out(grid: &Grid, corner: Corner) -> Option<Leaving>
+pub fn side_out(grid: &Grid, corner: Corner) -> Option<BoundarySide>
     requires row { corner.r ≤ 2 ^ 20 }
     requires column { corner.x ≤ 2 ^ 20 }
     requires is_corner { IsTrue (is_corner_of_kind grid.now.kind corner) }
     requires no_pinch { IsFalse (is_pinch grid.now corner) }
-    ensures { option_map (λ n. side n.cell corner n.to) result ≡ side_from grid.now corner }
+    ensures { option_map side_of result ≡ side_from grid.now corner }
 {
     let Some(gap) = first_exit(grid, corner) else {
         return None;
     };
-    Some(Leaving {
+    Some(BoundarySide {
         cell: Cell {
             r: corner.r - gap.left.rows,
             c: corner.x - gap.left.columns,
         },
+        from: corner,
         to: other_end(grid.kind(), corner, gap),
     })
+}
+
+/// The first boundary corner in raster order.
+pub fn first_boundary_corner(grid: &Grid) -> Option<Corner>
+    ensures { result ≡ find (is_boundary_corner_of grid.now) (corner_places grid.now) }
+{
+    for r in 0..grid.rows() + 1 {
+        for x in 0..grid.columns() + 2 {
+            let corner = Corner { r, x };
+            if is_corner(grid.kind(), corner) && first_exit(grid, corner).is_some() {
+                return Some(corner);
+            }
+        }
+    }
+    None
 }
 
 // Whether the corner is a boundary corner without a mark.

@@ -12,7 +12,7 @@ mod parts;
 mod pinch;
 mod rings;
 
-pub use circuit::has_one_circuit;
+pub use circuit::{BoundarySide, first_boundary_corner, has_one_circuit, side_out};
 pub use euler::has_euler_one;
 pub use flags::flags_of;
 pub use grid::Grid;

@@ -1,14 +1,16 @@
 //! The region type.
 
-ghost use Rattle.std.specs.Prelude.{◌≡◌, ◌<◌, length, slice_get, position, Some};
+ghost use Rattle.std.specs.Prelude.{◌≡◌, ◌+◌, ◌<◌, length, slice_get, find, position, option_map, Some, IsTrue};
 ghost use Rattle.tl_definitions.specs.Accepted.{Accepted};
-ghost use Rattle.tl_definitions.specs.Lattice.{corner_eq};
-ghost use Rattle.tl_definitions.specs.Region.{has, inner_corners};
+ghost use Rattle.tl_definitions.specs.Lattice.{corner_eq, is_corner};
+ghost use Rattle.tl_definitions.specs.Region.{has, inner_corners, corner_places};
+ghost use Rattle.tl_definitions.specs.Boundary.{is_boundary_corner, side_from};
 ghost use Rattle.tl_grid.specs.Grid.{IsKept};
 ghost use Rattle.tl_grid.specs.Inner.{IsInnerOf};
+ghost use Rattle.tl_grid.specs.Sides.{side_of};
 
 use std::marker::Model;
-use tl_grid::{Grid, Inner};
+use tl_grid::{BoundarySide, Grid, Inner, first_boundary_corner, side_out};
 use tl_lattice::{Cell, Corner, Kind};
 
 /// An accepted region: finitely many cells of one lattice, at least one, in one piece without pinch and without
@@ -104,6 +106,24 @@ impl Region {
         ensures { slice_get (inner_corners self.now) i ≡ Some result }
     {
         self.inner.corners[i as usize]
+    }
+
+    /// The boundary corner that is first in raster order: a corner from which a boundary side goes.
+    pub fn first_boundary_corner(&self) -> Option<Corner>
+        ensures { result ≡ find (is_boundary_corner self.now) (corner_places self.now) }
+    {
+        first_boundary_corner(&self.grid)
+    }
+
+    /// The boundary side that leaves the corner with the region on its left, if one does. The pair is a corner of
+    /// the lattice within the region's rows and columns.
+    pub fn side_from(&self, corner: Corner) -> Option<BoundarySide>
+        requires row { corner.r < self.now.rows + 1 }
+        requires column { corner.x < self.now.columns + 2 }
+        requires is_corner { IsTrue (is_corner self.now.kind corner) }
+        ensures { option_map side_of result ≡ side_from self.now corner }
+    {
+        side_out(&self.grid, corner)
     }
 
     /// The number of the corner, in constant time; None where the pair is no inner corner. Any pair may be

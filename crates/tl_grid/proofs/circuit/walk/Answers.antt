@@ -1,8 +1,7 @@
-use Rattle.std.proofs.Common.{◌≡◌, ◌+◌, ◌*◌, ◌<◌, false, true, not, Some, sym, subst, arith}
+use Rattle.std.proofs.Common.{◌≡◌, ◌+◌, ◌*◌, ◌<◌, false, true, not, sym, subst, arith}
 use Rattle.std.specs.Prelude.{count_by}
-use Rattle.tl_definitions.specs.Lattice.{side}
-use Rattle.tl_definitions.specs.Boundary.{side_from}
 use Rattle.tl_grid.specs.CornerMarks.{is_marked}
+use Rattle.tl_grid.specs.Sides.{side_of}
 use Rattle.tl_grid.proofs.MarkLemmas.{place-within, unmarked-fewer}
 use Rattle.tl_grid.proofs.WalkLemmas.{passable, leaves-there, marked-start, marked-more, marked-closed}
 use Rattle.tl_grid.proofs.circuit.walk.Goals as goal
@@ -58,8 +57,7 @@ pub loop-corner-preserved : goal.loop-corner-preserved
 loop-corner-preserved c =
     let p = passable c.args.grid.now c.args.start c.loop-corner.corner c.loop-corner.invariant.0 c.requires.kept.placed c.requires.no_pinch c.loop-corner.invariant.1 in
     let new : is_marked c.loop-corner.marks c.loop-corner.corner ≡ false = cc in
-    let is : Some (side c.in-Some.side.cell c.loop-corner.corner c.in-Some.side.to) ≡ side_from c.args.grid.now c.loop-corner.corner = c.in-Some.ensures in
-    marked-more c.args.grid.now c.args.start c.loop-corner.corner c.loop-corner.marks c.insert.new.self c.in-Some.side.cell c.in-Some.side.to p c.loop-corner.invariant new is
+    marked-more c.args.grid.now c.args.start c.loop-corner.corner c.loop-corner.marks c.insert.new.self (side_of c.in-Some.side) p c.loop-corner.invariant new c.in-Some.ensures
     c.insert.ensures.flags c.insert.ensures.width
 
 pub returns : goal.returns
