@@ -1,0 +1,100 @@
+//! The type of height functions.
+
+ghost use Rattle.std.specs.Prelude.{◌≡◌, ◌+◌, ◌≤◌, length, IfOk, IsTrue};
+ghost use Rattle.tl_definitions.specs.Region.{is_corner_of};
+ghost use Rattle.tl_definitions.specs.Heights.{height, AreLawful};
+ghost use Rattle.tl_height.specs.HeightFunction.{put_at};
+
+use std::alloc::{AllocError, Global};
+use std::marker::Model;
+use tl_lattice::Corner;
+use tl_region::Region;
+
+/// Lawful heights on the corners of a region: those of exactly one tiling.
+///
+/// They lie in one array, row by row: rows + 1 rows of columns + 2 numbers, where 0 stands for a pair that is no
+/// corner of the region.
+#[derive(Drop)]
+pub struct Heights<'a> {
+    region: &'a Region,
+    numbers: Vec<i32>,
+}
+
+impl<'a> Model for Heights<'a> {
+    ghost use Rattle.tl_definitions.specs.Heights.{AreLawful};
+    ghost use Rattle.tl_height.specs.HeightFunction.{HeightFunction};
+
+    ghost Value = { HeightFunction };
+
+    ghost view = { λ s. record { region = s.region.now; numbers = s.numbers.items } };
+
+    ghost invariant = { λ s. AreLawful s.region.now s.numbers.items };
+}
+
+impl<'a> Heights<'a> {
+    /// The height function of these numbers, laid out as `numbers` gives them.
+    pub fn of_numbers(region: &'a Region, numbers: Vec<i32>) -> Heights<'a>
+        requires { AreLawful region.now numbers.items }
+        ensures { result ≡ record { region = region.now; numbers = numbers.items } }
+    {
+        Heights { region, numbers }
+    }
+
+    /// The region.
+    pub fn region(&self) -> &'a Region
+        ensures region { result.now ≡ self.now.region }
+        ensures lawful { AreLawful self.now.region self.now.numbers }
+    {
+        self.region
+    }
+
+    /// All numbers, row by row: rows + 1 rows of columns + 2. The height of a corner in row r and column x is at
+    /// place r (columns + 2) + x, and 0 stands where the region has no corner.
+    pub fn numbers(&self) -> &[i32]
+        ensures numbers { result.now ≡ self.now.numbers }
+        ensures lawful { AreLawful self.now.region self.now.numbers }
+    {
+        self.numbers.as_slice()
+    }
+
+    /// The height of a corner of the region.
+    pub fn at(&self, corner: Corner) -> i32
+        requires { IsTrue (is_corner_of self.now.region corner) }
+        ensures { result ≡ height self.now.region self.now.numbers corner }
+    {
+        let width = self.region.columns() as usize + 2;
+        self.numbers[corner.r as usize * width + corner.x as usize]
+    }
+
+    /// A copy.
+    ///
+    /// # Errors
+    /// Want of memory.
+    pub fn copy(&self, alloc: Global) -> Result<Heights<'a>, AllocError>
+        ensures { IfOk result (λ h. h ≡ self.now) }
+    {
+        let numbers = self.numbers.to_vec(alloc)?;
+        Ok(Heights {
+            region: self.region,
+            numbers,
+        })
+    }
+
+    /// Takes over the heights of another height function of the same region.
+    pub fn copy_from(&mut self, other: &Heights)
+        requires { self.old.region ≡ other.now.region }
+        ensures { self.new ≡ other.now }
+    {
+        self.numbers.copy_from_slice(other.numbers.as_slice());
+    }
+
+    /// Puts these numbers in the place of those from a place on. The heights have to be lawful with them.
+    pub fn put(&mut self, place: usize, numbers: &[i32])
+        requires within { place + length numbers.now ≤ length self.old.numbers }
+        requires lawful { AreLawful self.old.region (put_at place numbers.now self.old.numbers) }
+        ensures region { self.new.region ≡ self.old.region }
+        ensures numbers { self.new.numbers ≡ put_at place numbers.now self.old.numbers }
+    {
+        self.numbers[place..place + numbers.len()].copy_from_slice(numbers);
+    }
+}

@@ -1,0 +1,8 @@
+//! Height functions of tilings: one number for each corner of a region.
+//!
+//! Height functions after W. P. Thurston, "Conway's Tiling Groups".
+#![tactic(auto)]
+
+mod heights;
+
+pub use heights::Heights;
