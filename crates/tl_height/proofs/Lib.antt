@@ -1,1 +1,4 @@
 pub mod HeightPlaces
+pub mod PresentLemmas
+pub mod InnerSteps
+pub mod StandingLemmas

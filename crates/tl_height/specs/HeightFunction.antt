@@ -1,11 +1,20 @@
 -- Height functions as contracts see them.
 use Rattle.std.specs.Prelude.{ℕ, ◌+◌, List, ◌++◌, length, take, drop, ℤ}
 use Rattle.tl_definitions.specs.Region.{Region}
+use Rattle.tl_definitions.specs.Accepted.{Accepted}
+use Rattle.tl_definitions.specs.Heights.{AreLawful}
+use Rattle.tl_region.specs.Grid.{IsKept}
 
 -- a region with lawful heights on its corners, as contracts see what holds both
 pub record HeightFunction : Type 0 where
   pub region : Region
   pub numbers : List ℤ
+
+-- what holds of both: the region was read, and the heights are lawful
+pub record IsHeightFunction (R : Region) (numbers : List ℤ) : Type 0 where
+  pub kept : IsKept R
+  pub accepted : Accepted R
+  pub lawful : AreLawful R numbers
 
 -- the list with these numbers in the place of those from a place on
 abbrev pub put_at : ℕ → List ℤ → List ℤ → List ℤ

@@ -1,1 +1,2 @@
 pub mod HeightFunction
+pub mod Standing

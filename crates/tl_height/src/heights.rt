@@ -1,13 +1,20 @@
 //! The type of height functions.
 
-ghost use Rattle.std.specs.Prelude.{◌≡◌, ◌+◌, ◌≤◌, length, IfOk, IsTrue};
-ghost use Rattle.tl_definitions.specs.Region.{is_corner_of};
-ghost use Rattle.tl_definitions.specs.Heights.{height, AreLawful};
+ghost use Rattle.std.specs.Prelude.{◌≡◌, ◌+◌, ◌<◌, ◌≤◌, List, length, slice_get, All, IfOk, IfSome, IsTrue, Some, int_lt};
+ghost use Rattle.std.specs.List.{list_all};
+ghost use Rattle.tl_definitions.specs.declared.Corner.{Corner};
+ghost use Rattle.tl_definitions.specs.declared.Tile.{Tile};
+ghost use Rattle.tl_definitions.specs.Region.{is_corner_of, is_inner, inner_corners, present};
+ghost use Rattle.tl_definitions.specs.Tiling.{is_tiling};
+ghost use Rattle.tl_definitions.specs.Heights.{height, AreHeights, AreLawful};
+ghost use Rattle.tl_closing.specs.Standing.{falls_from, falls_to};
 ghost use Rattle.tl_height.specs.HeightFunction.{put_at};
+ghost use Rattle.tl_height.specs.Standing.{standing};
 
+use crate::standing::{Standing, steps_in};
 use std::alloc::{AllocError, Global};
 use std::marker::Model;
-use tl_lattice::Corner;
+use tl_lattice::{Corner, steps_out};
 use tl_region::Region;
 
 /// Lawful heights on the corners of a region: those of exactly one tiling.
@@ -21,14 +28,13 @@ pub struct Heights<'a> {
 }
 
 impl<'a> Model for Heights<'a> {
-    ghost use Rattle.tl_definitions.specs.Heights.{AreLawful};
-    ghost use Rattle.tl_height.specs.HeightFunction.{HeightFunction};
+    ghost use Rattle.tl_height.specs.HeightFunction.{HeightFunction, IsHeightFunction};
 
     ghost Value = { HeightFunction };
 
     ghost view = { λ s. record { region = s.region.now; numbers = s.numbers.items } };
 
-    ghost invariant = { λ s. AreLawful s.region.now s.numbers.items };
+    ghost invariant = { λ s. IsHeightFunction s.region.now s.numbers.items };
 }
 
 impl<'a> Heights<'a> {
@@ -37,6 +43,7 @@ impl<'a> Heights<'a> {
         requires { AreLawful region.now numbers.items }
         ensures { result ≡ record { region = region.now; numbers = numbers.items } }
     {
+        prove!(numbers.len() == (region.rows() as usize + 1) * (region.columns() as usize + 2));
         Heights { region, numbers }
     }
 
@@ -64,6 +71,72 @@ impl<'a> Heights<'a> {
     {
         let width = self.region.columns() as usize + 2;
         self.numbers[corner.r as usize * width + corner.x as usize]
+    }
+
+    /// How the tiling with these heights stands at the inner corner of this number, in raster order from 0.
+    pub fn standing(&self, i: u32) -> Standing
+        requires { i < length (inner_corners self.now.region) }
+        ensures { (A : List Tile) (v : Corner) → IsTrue (is_tiling self.now.region A) → AreHeights self.now.region A self.now.numbers
+            → slice_get (inner_corners self.now.region) i ≡ Some v → result ≡ standing self.now.region A v }
+    {
+        let corner = self.region.inner(i);
+        if self.falls_from(corner) {
+            Standing::High
+        } else if self.falls_to(corner) {
+            Standing::Low
+        } else {
+            Standing::No
+        }
+    }
+
+    // Whether the heights fall along every step from an inner corner.
+    fn falls_from(&self, corner: Corner) -> bool
+        requires { IsTrue (is_inner self.now.region corner) }
+        ensures { result ≡ falls_from self.now.region self.now.numbers corner }
+    {
+        let steps = steps_out(self.region.kind(), corner);
+        self.are_below(&steps.corners, self.at(corner))
+    }
+
+    // Whether the heights fall along every step to an inner corner.
+    fn falls_to(&self, corner: Corner) -> bool
+        requires { IsTrue (is_inner self.now.region corner) }
+        ensures { result ≡ falls_to self.now.region self.now.numbers corner }
+    {
+        let corners = steps_in(self.region.kind(), corner);
+        self.are_above(&corners, self.at(corner))
+    }
+
+    // Whether the height of each of these corners is below a number.
+    fn are_below(&self, corners: &[Option<Corner>], number: i32) -> bool
+        requires { All (λ place. IfSome place (λ v. IsTrue (is_corner_of self.now.region v))) corners.now }
+        ensures { result ≡ list_all (λ v. int_lt (height self.now.region self.now.numbers v) number) (present corners.now) }
+    {
+        for corner in corners {
+            let Some(corner) = *corner else {
+                continue;
+            };
+            if self.at(corner) >= number {
+                return false;
+            }
+        }
+        true
+    }
+
+    // Whether the height of each of these corners is above a number.
+    fn are_above(&self, corners: &[Option<Corner>], number: i32) -> bool
+        requires { All (λ place. IfSome place (λ v. IsTrue (is_corner_of self.now.region v))) corners.now }
+        ensures { result ≡ list_all (λ v. int_lt number (height self.now.region self.now.numbers v)) (present corners.now) }
+    {
+        for corner in corners {
+            let Some(corner) = *corner else {
+                continue;
+            };
+            if self.at(corner) <= number {
+                return false;
+            }
+        }
+        true
     }
 
     /// A copy.

@@ -4,5 +4,7 @@
 #![tactic(auto)]
 
 mod heights;
+mod standing;
 
 pub use heights::Heights;
+pub use standing::Standing;

@@ -12,7 +12,7 @@ use Rattle.tl_height.proofs.heights.Heights.at.Goals.{After-columns}
 within : (c : After-columns) → c.args.corner.r * (c.columns.result + 2) + c.args.corner.x < length c.self.inside.numbers.items
 within c =
     subst (λ (n : ℕ). c.args.corner.r * (n + 2) + c.args.corner.x < length c.self.inside.numbers.items) (sym c.columns.ensures.columns)
-    (place-within c.self.inside.region.now c.self.inside.numbers.items c.args.corner c.columns.ensures.kept.placed c.self.invariant.heights
+    (place-within c.self.inside.region.now c.self.inside.numbers.items c.args.corner c.columns.ensures.kept.placed c.self.invariant.lawful.heights
     (subst (λ (f : HeightFunction). is_corner_of f.region c.args.corner ≡ true) (sym c.self.view_is) c.requires))
 
 pub index-requires : goal.index-requires

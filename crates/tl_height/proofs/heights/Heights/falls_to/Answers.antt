@@ -1,0 +1,37 @@
+use Rattle.std.proofs.Common.{◌≡◌, true, sym, ◌∙◌, ap, subst, map, Some}
+use Rattle.tl_definitions.specs.declared.Kind.{Kind}
+use Rattle.tl_definitions.specs.Region.{Region, is_corner_of, is_inner}
+use Rattle.tl_lattice.specs.Places.{padded}
+use Rattle.tl_region.specs.Grid.{IsKept}
+use Rattle.tl_closing.specs.Standing.{steps_in}
+use Rattle.tl_height.specs.HeightFunction.{HeightFunction}
+use Rattle.tl_height.proofs.InnerSteps.{IsInside, inner-inside, ins-of_region}
+use Rattle.tl_height.proofs.heights.Heights.falls_to.Goals as goal
+use Rattle.tl_height.proofs.heights.Heights.falls_to.Goals.{After-kind, After-steps_in-corners}
+
+shape : (c : After-kind) → c.self.inside.region.now ≡ c.args.self.now.region
+shape c = ap (λ (f : HeightFunction). f.region) c.self.view_is
+
+inside : (c : After-kind) → IsInside c.self.inside.region.now c.args.corner
+inside c =
+    inner-inside c.self.inside.region.now c.args.corner c.self.invariant.kept
+    (subst (λ (R : Region). is_inner R c.args.corner ≡ true) (sym (shape c)) c.requires)
+
+pub steps_in-corners-requires-clause-row : goal.steps_in-corners-requires-clause-row
+steps_in-corners-requires-clause-row c = (inside (goal.at.steps_in-corners-requires-clause-row c).After-kind).row
+
+pub steps_in-corners-requires-clause-column : goal.steps_in-corners-requires-clause-column
+steps_in-corners-requires-clause-column c = (inside (goal.at.steps_in-corners-requires-clause-column c).After-kind).column
+
+-- the table is that of the definition
+table : (c : After-steps_in-corners) → c.steps_in-corners.result ≡ padded 3 (map (λ u. Some u) (steps_in c.args.self.now.region.kind c.args.corner))
+table c = c.steps_in-corners.ensures ∙ ap (λ (k : Kind). padded 3 (map (λ u. Some u) (steps_in k c.args.corner))) (c.kind.ensures ∙ ap (λ (R : Region). R.kind) (ap (λ (f : HeightFunction). f.region) c.self.view_is))
+
+pub at-requires : goal.at-requires
+at-requires c =
+    let k = (goal.at.at-requires c).After-kind in
+    subst (λ (R : Region). is_corner_of R c.args.corner ≡ true) (shape k) (inside k).of_region
+
+pub are_above-requires : goal.are_above-requires
+are_above-requires c =
+    ins-of_region c.args.self.now.region c.args.corner c.steps_in-corners.result (subst IsKept (shape (goal.at.are_above-requires c).After-kind) c.self.invariant.kept) c.requires (table (goal.at.are_above-requires c).After-steps_in-corners)

@@ -1,0 +1,18 @@
+-- How a tiling stands at a corner.
+use Rattle.std.specs.Prelude.{ℕ, List, if◌then◌else◌}
+use Rattle.tl_definitions.specs.declared.Kind.{Kind}
+use Rattle.tl_definitions.specs.declared.Kind.TheVariants.{Square, Triangle}
+use Rattle.tl_definitions.specs.declared.Corner.{Corner}
+use Rattle.tl_definitions.specs.declared.Tile.{Tile}
+use Rattle.tl_definitions.specs.Region.{Region}
+use Rattle.tl_definitions.specs.Flip.{stands_high, stands_low}
+use Rattle.tl_height.specs.declared.standing.Standing.{Standing}
+use Rattle.tl_height.specs.declared.standing.Standing.TheVariants.{High, Low, No}
+
+abbrev pub standing : Region → List Tile → Corner → Standing
+standing R A v = if stands_high R A v then High else (if stands_low R A v then Low else No)
+
+-- how far left of a corner's own column the cells round it begin
+abbrev pub left_reach : Kind → ℕ
+left_reach Square = 1
+left_reach Triangle = 2
