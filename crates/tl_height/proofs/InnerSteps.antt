@@ -162,10 +162,9 @@ outs-of_region R v places inner same =
     (λ w i. beside-of_region R v w inner (out-beside R.kind v w
     (subst (λ (ws : List Corner). In w ws) (ap (λ (os : List (Option Corner)). present os) same ∙ present-padded 3 (steps_out R.kind v)) i)))
 
-pub ins-of_region : (R : Region) (v : Corner) (places : List (Option Corner)) → IsKept R → is_inner R v ≡ true → places ≡ padded 3 (map (λ u. Some u) (steps_in R.kind v))
+pub ins-of_region : (R : Region) (v : Corner) (places : List (Option Corner)) → IsInside R v → is_inner R v ≡ true → places ≡ padded 3 (map (λ u. Some u) (steps_in R.kind v))
     → All (λ place. IfSome place (λ w. IsTrue (is_corner_of R w))) places
-ins-of_region R v places kept inner same =
-    let inside : IsInside R v = inner-inside R v kept inner in
+ins-of_region R v places inside inner same =
     each-place (λ w. IsTrue (is_corner_of R w)) places
     (λ w i. beside-of_region R v w inner (in-beside R.kind v w inside.above inside.left
     (subst (λ (ws : List Corner). In w ws)

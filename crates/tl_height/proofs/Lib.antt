@@ -2,3 +2,5 @@ pub mod HeightPlaces
 pub mod PresentLemmas
 pub mod InnerSteps
 pub mod StandingLemmas
+pub mod LetterLemmas
+pub mod RowLemmas

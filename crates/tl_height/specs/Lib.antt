@@ -1,2 +1,3 @@
 pub mod HeightFunction
 pub mod Standing
+pub mod Letters

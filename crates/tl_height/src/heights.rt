@@ -1,20 +1,23 @@
 //! The type of height functions.
 
-ghost use Rattle.std.specs.Prelude.{◌≡◌, ◌+◌, ◌<◌, ◌≤◌, List, length, slice_get, All, IfOk, IfSome, IsTrue, Some, int_lt};
+ghost use Rattle.std.specs.Prelude.{◌≡◌, ◌+◌, ◌*◌, ◌<◌, ◌≤◌, List, length, slice_get, All, IfOk, IfSome, IsTrue, Some, int_lt};
 ghost use Rattle.std.specs.List.{list_all};
 ghost use Rattle.tl_definitions.specs.declared.Corner.{Corner};
 ghost use Rattle.tl_definitions.specs.declared.Tile.{Tile};
 ghost use Rattle.tl_definitions.specs.Region.{is_corner_of, is_inner, inner_corners, present};
-ghost use Rattle.tl_definitions.specs.Tiling.{is_tiling};
+ghost use Rattle.tl_definitions.specs.Tiling.{is_tiling, partner};
+ghost use Rattle.tl_definitions.specs.Drawing.{letter};
 ghost use Rattle.tl_definitions.specs.Heights.{height, AreHeights, AreLawful};
 ghost use Rattle.tl_closing.specs.Standing.{falls_from, falls_to};
 ghost use Rattle.tl_height.specs.HeightFunction.{put_at};
+ghost use Rattle.tl_height.specs.Letters.{IsDrawnFrom, falls_between, row_text};
 ghost use Rattle.tl_height.specs.Standing.{standing};
 
+use crate::letters::side_ends;
 use crate::standing::{Standing, steps_in};
 use std::alloc::{AllocError, Global};
 use std::marker::Model;
-use tl_lattice::{Corner, steps_out};
+use tl_lattice::{Cell, Corner, steps_out};
 use tl_region::Region;
 
 /// Lawful heights on the corners of a region: those of exactly one tiling.
@@ -137,6 +140,62 @@ impl<'a> Heights<'a> {
             }
         }
         true
+    }
+
+    /// Prints the drawing of the tiling with these heights: one line for each row, each with a line feed, of as many
+    /// bytes as the region has columns. A cell has the letter that names its partner, and every other place has `.`.
+    pub fn to_letters(&self, out: &mut [u8])
+        requires { length out.old ≡ self.now.region.rows * (self.now.region.columns + 1) }
+        ensures { IsDrawnFrom self.now.region self.now.numbers out.new }
+    {
+        let rows = self.region.rows();
+        let width = self.region.columns() as usize + 1;
+        for r in 0..rows {
+            let start = r as usize * width;
+            self.write_row(r, &mut out[start..start + width]);
+        }
+    }
+
+    // Writes the letters of a row, and a line feed.
+    fn write_row(&self, r: u32, line: &mut [u8])
+        requires { length line.old ≡ self.now.region.columns + 1 }
+        ensures { (A : List Tile) → IsTrue (is_tiling self.now.region A) → AreHeights self.now.region A self.now.numbers
+            → line.new ≡ row_text self.now.region A r }
+    {
+        let columns = self.region.columns();
+        for c in 0..columns {
+            line[c as usize] = self.letter(Cell { r, c });
+        }
+        line[columns as usize] = b'\n';
+    }
+
+    // The letter at a place: for a cell, that of the side across which the heights differ by more than 1.
+    fn letter(&self, cell: Cell) -> u8
+        ensures { (A : List Tile) → IsTrue (is_tiling self.now.region A) → AreHeights self.now.region A self.now.numbers
+            → result ≡ letter cell (partner A cell) }
+    {
+        if !self.region.has(cell) {
+            return b'.';
+        }
+        let ends = side_ends(self.region.kind(), cell);
+        if self.falls_between(ends.upper_right, ends.lower_right) {
+            b'>'
+        } else if self.falls_between(ends.upper_left, ends.lower_left) {
+            b'<'
+        } else if self.falls_between(ends.lower_left, ends.lower_right) {
+            b'v'
+        } else {
+            b'^'
+        }
+    }
+
+    // Whether the heights of two corners of the region differ by more than 1.
+    fn falls_between(&self, first: Corner, second: Corner) -> bool
+        requires first { IsTrue (is_corner_of self.now.region first) }
+        requires second { IsTrue (is_corner_of self.now.region second) }
+        ensures { result ≡ falls_between self.now.region self.now.numbers first second }
+    {
+        self.at(first).abs_diff(self.at(second)) > 1
     }
 
     /// A copy.

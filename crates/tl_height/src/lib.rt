@@ -4,6 +4,7 @@
 #![tactic(auto)]
 
 mod heights;
+mod letters;
 mod standing;
 
 pub use heights::Heights;

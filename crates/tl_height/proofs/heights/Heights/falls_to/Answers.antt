@@ -2,7 +2,6 @@ use Rattle.std.proofs.Common.{◌≡◌, true, sym, ◌∙◌, ap, subst, map, S
 use Rattle.tl_definitions.specs.declared.Kind.{Kind}
 use Rattle.tl_definitions.specs.Region.{Region, is_corner_of, is_inner}
 use Rattle.tl_lattice.specs.Places.{padded}
-use Rattle.tl_region.specs.Grid.{IsKept}
 use Rattle.tl_closing.specs.Standing.{steps_in}
 use Rattle.tl_height.specs.HeightFunction.{HeightFunction}
 use Rattle.tl_height.proofs.InnerSteps.{IsInside, inner-inside, ins-of_region}
@@ -34,4 +33,5 @@ at-requires c =
 
 pub are_above-requires : goal.are_above-requires
 are_above-requires c =
-    ins-of_region c.args.self.now.region c.args.corner c.steps_in-corners.result (subst IsKept (shape (goal.at.are_above-requires c).After-kind) c.self.invariant.kept) c.requires (table (goal.at.are_above-requires c).After-steps_in-corners)
+    let k = (goal.at.are_above-requires c).After-kind in
+    ins-of_region c.args.self.now.region c.args.corner c.steps_in-corners.result (subst (λ (R : Region). IsInside R c.args.corner) (shape k) (inside k)) c.requires (table (goal.at.are_above-requires c).After-steps_in-corners)

@@ -1,0 +1,369 @@
+-- The letter of a cell names the side across which the heights fall.
+use Rattle.std.proofs.Common.{◌≡◌, ℕ, ◌+◌, ◌-◌, ◌⊎◌, inl, inr, Bool, true, false, not, List, [], ◌∷◌, map, cond, Option, Some, None, refl, sym, ◌∙◌, ap, subst, arith, ℤ, pos, negsuc, ◌+ℤ◌, ◌-ℤ◌}
+use Rattle.std.specs.Prelude.{find, option_map, nat_lt, unsigned_abs, IsTrue}
+use Rattle.std.proofs.lemmas.Int.{ints}
+use Rattle.std.proofs.lemmas.Bool.{false_from_ne_true}
+use Rattle.tl_definitions.specs.declared.Kind.{Kind}
+use Rattle.tl_definitions.specs.declared.Kind.TheVariants.{Square, Triangle}
+use Rattle.tl_definitions.specs.declared.Cell.{Cell}
+use Rattle.tl_definitions.specs.declared.Corner.{Corner}
+use Rattle.tl_definitions.specs.declared.Tile.{Tile}
+use Rattle.tl_definitions.specs.Lattice.{corner, cell_eq, left, right, above, below, is_dark, corners, side, sides}
+use Rattle.tl_definitions.specs.Region.{Region, has, is_corner_of}
+use Rattle.tl_definitions.specs.Tiling.{covers, is_tiling, other_cell, partner}
+use Rattle.tl_definitions.specs.Drawing.{letter}
+use Rattle.tl_definitions.specs.Heights.{rise, height, AreHeights}
+use Rattle.tl_definitions.proofs.Regions.{cell_eq-same}
+use Rattle.tl_definitions.proofs.Sublists.{In, In-map, cell_eq-refl}
+use Rattle.tl_definitions.proofs.Ordered.{Only, find-only}
+use Rattle.tl_definitions.proofs.Drawings.{letter-named}
+use Rattle.tl_closing.specs.Closing.{step_along, steps_round}
+use Rattle.tl_closing.proofs.Steps.{less-some}
+use Rattle.tl_closing.proofs.Sides.{directed, SameStep, same_step}
+use Rattle.tl_closing.proofs.Centres.{IsCentre, round-centre, cell-one, cell-two}
+use Rattle.tl_closing.proofs.Edges.{Step, has-In, In-has, round-step, is_step-from, corner_of-from}
+use Rattle.tl_closing.proofs.Crossed.{TilingParts, tiling-parts, is_crossed, crossed-parts, IsAcross, IsCrossing, one-crossed, covers-cases, covers-from}
+use Rattle.tl_closing.proofs.Standing.{up_sides, down_sides, among-up, among-down}
+use Rattle.tl_height.specs.declared.letters.Ends.{Ends}
+use Rattle.tl_height.specs.Letters.{ends_of, falls_between}
+
+-- ---- beyond the crossed step of a cell lies its partner
+
+record Across (R : Region) (A : List Tile) (a : Cell) : Type 0 where
+  step : Step
+  crossing : IsCrossing R A a step
+  mate : Cell
+  there : In step (steps_round R.kind mate)
+  differ : a ≡ mate → ⊥
+  partner_is : partner A a ≡ Some mate
+
+across : (R : Region) (A : List Tile) → TilingParts R A → (a : Cell) → In a R.cells → Across R A a
+across R A tiling a i = start (one-crossed R A tiling a i)
+  where
+    one : (t : Tile) → In t A → covers t a ≡ true → (b : Cell) → other_cell t a ≡ b → partner A a ≡ Some b
+    one t k c b other = go (tiling.covered a i)
+      where
+        go : (s : Tile) × Only (λ s. covers s a) A s → partner A a ≡ Some b
+        go (s, o) =
+            ap (option_map (λ t. other_cell t a)) (find-only (λ t. covers t a) A t k c (λ u l h. o.only u l h ∙ sym (o.only t k c)))
+            ∙ ap (λ (x : Cell). Some x) other
+
+    with_tile : (e : Step) → IsCrossing R A a e → (t : Tile) → In t A → IsAcross R t e → (a ≡ t.first) ⊎ (a ≡ t.second) → Across R A a
+    with_tile e o t k (m, n) (inl same) = record {
+      step = e;
+      crossing = o;
+      mate = t.second;
+      there = n;
+      differ = λ d. (tiling.tiles t k).differ (sym same ∙ d);
+      partner_is = one t k (covers-from t a (inl same)) t.second
+          (ap (λ (b : Bool). cond b t.second t.first) (subst (λ (x : Cell). cell_eq x a ≡ true) same (cell_eq-refl a)));
+    }
+    with_tile e o t k (m, n) (inr same) = record {
+      step = e;
+      crossing = o;
+      mate = t.first;
+      there = m;
+      differ = λ d. (tiling.tiles t k).differ (sym d ∙ same);
+      partner_is = one t k (covers-from t a (inr same)) t.first
+          (ap (λ (b : Bool). cond b t.second t.first) (false_from_ne_true (cell_eq t.first a) (λ h. (tiling.tiles t k).differ (cell_eq-same t.first a h ∙ same))));
+    }
+
+    with_step : (e : Step) → IsCrossing R A a e → (t : Tile) × In t A × IsAcross R t e → Across R A a
+    with_step e o (t, k, (m, n)) = with_tile e o t k (m, n) (cell-two R.kind t.first t.second a e (tiling.tiles t k).differ m n o.inside)
+
+    start : (e : Step) × IsCrossing R A a e → Across R A a
+    start (e, o) = with_step e o (crossed-parts R A e (round-step R.kind a e o.inside) o.crossed)
+
+-- ---- a step that a tile crosses falls, by 2 or 3, and one that none crosses rises by 1
+
+abbrev is_far : ℤ → ℤ → Bool
+is_far x y = nat_lt 1 (unsigned_abs (x -ℤ y))
+
+far : (k : Kind) (x y : ℤ) (t : Bool) → y ≡ x +ℤ cond t (negsuc (rise k - 2)) (pos 1) → (is_far x y ≡ t) × (is_far y x ≡ t)
+far Square x y true e = (ap (λ (z : ℤ). nat_lt 1 (unsigned_abs z)) on, ap (λ (z : ℤ). nat_lt 1 (unsigned_abs z)) back)
+  where
+    on : x -ℤ y ≡ pos 3
+    on = omega (arith, ints, e)
+
+    back : y -ℤ x ≡ negsuc 2
+    back = omega (arith, ints, e)
+far Triangle x y true e = (ap (λ (z : ℤ). nat_lt 1 (unsigned_abs z)) on, ap (λ (z : ℤ). nat_lt 1 (unsigned_abs z)) back)
+  where
+    on : x -ℤ y ≡ pos 2
+    on = omega (arith, ints, e)
+
+    back : y -ℤ x ≡ negsuc 1
+    back = omega (arith, ints, e)
+far k x y false e = (ap (λ (z : ℤ). nat_lt 1 (unsigned_abs z)) on, ap (λ (z : ℤ). nat_lt 1 (unsigned_abs z)) back)
+  where
+    on : x -ℤ y ≡ negsuc 0
+    on = omega (arith, ints, e)
+
+    back : y -ℤ x ≡ pos 1
+    back = omega (arith, ints, e)
+
+near-itself : (x : ℤ) → is_far x x ≡ false
+near-itself x = ap (λ (z : ℤ). nat_lt 1 (unsigned_abs z)) none
+  where
+    none : x -ℤ x ≡ pos 0
+    none = omega (arith, ints)
+
+-- ---- the four places of the partner
+
+right-is : (a b : Cell) → b.r ≡ a.r → b.c ≡ a.c + 1 → right a ≡ Some b
+right-is a b p q = λ i. Some (record { r = sym p i; c = sym q i })
+
+below-is : (a b : Cell) → b.r ≡ a.r + 1 → b.c ≡ a.c → below a ≡ Some b
+below-is a b p q = λ i. Some (record { r = sym p i; c = sym q i })
+
+left-is : (a b : Cell) → b.r ≡ a.r → b.c + 1 ≡ a.c → left a ≡ Some b
+left-is a b p q = rw (less-some a.c 1 b.c (sym q)) (λ i. Some (record { r = sym p i; c = b.c }))
+
+above-is : (a b : Cell) → b.r + 1 ≡ a.r → b.c ≡ a.c → above a ≡ Some b
+above-is a b p q = rw (less-some a.r 1 b.r (sym p)) (λ i. Some (record { r = b.r; c = sym q i }))
+
+over-right : (t : Bool) (r c r' c' : ℕ) → IsCentre Square (not t) r' c' (directed t (corner (r + 1) (c + 1)) (corner r (c + 1))) → (r' ≡ r) × (c' ≡ c + 1)
+over-right true r c r' c' p = (omega (arith, p), omega (arith, p))
+over-right false r c r' c' p = (omega (arith, p), omega (arith, p))
+
+over-lower : (t : Bool) (r c r' c' : ℕ) → IsCentre Square (not t) r' c' (directed t (corner (r + 1) c) (corner (r + 1) (c + 1))) → (r' ≡ r + 1) × (c' ≡ c)
+over-lower true r c r' c' p = (omega (arith, p), omega (arith, p))
+over-lower false r c r' c' p = (omega (arith, p), omega (arith, p))
+
+over-left : (t : Bool) (r c r' c' : ℕ) → IsCentre Square (not t) r' c' (directed t (corner r c) (corner (r + 1) c)) → (r' ≡ r) × (c' + 1 ≡ c)
+over-left true r c r' c' p = (omega (arith, p), omega (arith, p))
+over-left false r c r' c' p = (omega (arith, p), omega (arith, p))
+
+over-upper : (t : Bool) (r c r' c' : ℕ) → IsCentre Square (not t) r' c' (directed t (corner r (c + 1)) (corner r c)) → (r' + 1 ≡ r) × (c' ≡ c)
+over-upper true r c r' c' p = (omega (arith, p), omega (arith, p))
+over-upper false r c r' c' p = (omega (arith, p), omega (arith, p))
+
+-- ---- the letter by three tests
+
+abbrev pub tested : Bool → Bool → Bool → ℕ
+tested on_right on_left on_lower = cond on_right 62 (cond on_left 60 (cond on_lower 118 94))
+
+abbrev pub letter_by : (Corner → Corner → Bool) → Ends → ℕ
+letter_by falls e = tested (falls e.upper_right e.lower_right) (falls e.upper_left e.lower_left) (falls e.lower_left e.lower_right)
+
+same_ends : (t : Bool) (u v u' v' : Corner) → directed t u v ≡ directed t u' v' → SameStep (u, v) (u', v')
+same_ends true u v u' v' e = same_step _ _ e
+same_ends false u v u' v' e =
+    let p : SameStep (v, u) (v', u') = same_step _ _ e in
+    record { from_r = p.to_r; from_x = p.to_x; to_r = p.from_r; to_x = p.from_x }
+
+module _ (falls : Corner → Corner → Bool) (none : (u : Corner) → falls u u ≡ false) (a b : Cell) (e : Step) where
+  -- the test holds along the step e of the cell, and along no other
+  abbrev On : Kind → Type 0
+  On k = (u v : Corner) → In (side a u v) (sides k a) → e ≡ directed (is_dark a) u v → (falls u v ≡ true) × (falls v u ≡ true)
+
+  abbrev Off : Kind → Type 0
+  Off k = (u v : Corner) → In (side a u v) (sides k a) → (e ≡ directed (is_dark a) u v → ⊥) → (falls u v ≡ false) × (falls v u ≡ false)
+
+  square-letter : On Square → Off Square → IsCentre Square (not (is_dark a)) b.r b.c e → In e (steps_round Square a) → letter_by falls (ends_of Square a) ≡ letter a (Some b)
+  square-letter on off centre (inl at) =
+      let p = off _ _ (inr (inr (inl refl))) (λ q. omega (arith, same_ends (is_dark a) _ _ _ _ (sym q ∙ at))) in
+      let l = on _ _ (inl refl) at in
+      let place = over-left (is_dark a) a.r a.c b.r b.c (subst (IsCentre Square (not (is_dark a)) b.r b.c) at centre) in
+      (λ i. tested (p.1 i) (l.0 i) (falls (corner (a.r + 1) a.c) (corner (a.r + 1) (a.c + 1)))) ∙ sym (letter-named 60 a b (left-is a b place.0 place.1))
+  square-letter on off centre (inr (inl at)) =
+      let p = off _ _ (inr (inr (inl refl))) (λ q. omega (arith, same_ends (is_dark a) _ _ _ _ (sym q ∙ at))) in
+      let l = off _ _ (inl refl) (λ q. omega (arith, same_ends (is_dark a) _ _ _ _ (sym q ∙ at))) in
+      let d = on _ _ (inr (inl refl)) at in
+      let place = over-lower (is_dark a) a.r a.c b.r b.c (subst (IsCentre Square (not (is_dark a)) b.r b.c) at centre) in
+      (λ i. tested (p.1 i) (l.0 i) (d.0 i)) ∙ sym (letter-named 118 a b (below-is a b place.0 place.1))
+  square-letter on off centre (inr (inr (inl at))) =
+      let p = on _ _ (inr (inr (inl refl))) at in
+      let place = over-right (is_dark a) a.r a.c b.r b.c (subst (IsCentre Square (not (is_dark a)) b.r b.c) at centre) in
+      (λ i. tested (p.1 i) (falls (corner a.r a.c) (corner (a.r + 1) a.c)) (falls (corner (a.r + 1) a.c) (corner (a.r + 1) (a.c + 1))))
+      ∙ sym (letter-named 62 a b (right-is a b place.0 place.1))
+  square-letter on off centre (inr (inr (inr (inl at)))) =
+      let p = off _ _ (inr (inr (inl refl))) (λ q. omega (arith, same_ends (is_dark a) _ _ _ _ (sym q ∙ at))) in
+      let l = off _ _ (inl refl) (λ q. omega (arith, same_ends (is_dark a) _ _ _ _ (sym q ∙ at))) in
+      let d = off _ _ (inr (inl refl)) (λ q. omega (arith, same_ends (is_dark a) _ _ _ _ (sym q ∙ at))) in
+      let place = over-upper (is_dark a) a.r a.c b.r b.c (subst (IsCentre Square (not (is_dark a)) b.r b.c) at centre) in
+      (λ i. tested (p.1 i) (l.0 i) (d.0 i)) ∙ sym (letter-named 94 a b (above-is a b place.0 place.1))
+  square-letter on off centre (inr (inr (inr (inr never)))) = absurd never
+
+  -- the centre of the cell beyond the step, by the colour of this one
+  centre-at : (t : Bool) (u v : Corner) → is_dark a ≡ t → IsCentre Triangle (not (is_dark a)) b.r b.c e → e ≡ directed (is_dark a) u v
+      → IsCentre Triangle (not t) b.r b.c (directed t u v)
+  centre-at t u v colour centre at =
+      subst (λ (t : Bool). IsCentre Triangle (not t) b.r b.c (directed t u v)) colour (subst (IsCentre Triangle (not (is_dark a)) b.r b.c) at centre)
+
+  abbrev ends_up : Ends
+  ends_up =
+      record {
+        upper_left = corner a.r (a.c + 1);
+        upper_right = corner a.r (a.c + 1);
+        lower_left = corner (a.r + 1) a.c;
+        lower_right = corner (a.r + 1) (a.c + 2);
+      }
+
+  abbrev ends_down : Ends
+  ends_down =
+      record {
+        upper_left = corner a.r a.c;
+        upper_right = corner a.r (a.c + 2);
+        lower_left = corner (a.r + 1) (a.c + 1);
+        lower_right = corner (a.r + 1) (a.c + 1);
+      }
+
+  up-letter : On Triangle → Off Triangle → IsCentre Triangle (not (is_dark a)) b.r b.c e → is_dark a ≡ true → In e (map step_along (up_sides a)) → letter_by falls ends_up ≡ letter a (Some b)
+  up-letter on off centre dark (inl at) =
+      let p = off (corner (a.r + 1) (a.c + 2)) (corner a.r (a.c + 1)) (among-up a _ dark (inr (inr (inl refl)))) (λ q. omega (arith, same_ends (is_dark a) _ _ _ _ (sym q ∙ at))) in
+      let l = on (corner a.r (a.c + 1)) (corner (a.r + 1) a.c) (among-up a _ dark (inl refl)) at in
+      let m = centre-at true (corner a.r (a.c + 1)) (corner (a.r + 1) a.c) dark centre at in
+      (λ i. tested (p.1 i) (l.0 i) (falls (corner (a.r + 1) a.c) (corner (a.r + 1) (a.c + 2)))) ∙ sym (letter-named 60 a b (left-is a b (omega (arith, m)) (omega (arith, m))))
+  up-letter on off centre dark (inr (inl at)) =
+      let p = off (corner (a.r + 1) (a.c + 2)) (corner a.r (a.c + 1)) (among-up a _ dark (inr (inr (inl refl)))) (λ q. omega (arith, same_ends (is_dark a) _ _ _ _ (sym q ∙ at))) in
+      let l = off (corner a.r (a.c + 1)) (corner (a.r + 1) a.c) (among-up a _ dark (inl refl)) (λ q. omega (arith, same_ends (is_dark a) _ _ _ _ (sym q ∙ at))) in
+      let d = on (corner (a.r + 1) a.c) (corner (a.r + 1) (a.c + 2)) (among-up a _ dark (inr (inl refl))) at in
+      let m = centre-at true (corner (a.r + 1) a.c) (corner (a.r + 1) (a.c + 2)) dark centre at in
+      (λ i. tested (p.1 i) (l.0 i) (d.0 i)) ∙ sym (letter-named 118 a b (below-is a b (omega (arith, m)) (omega (arith, m))))
+  up-letter on off centre dark (inr (inr (inl at))) =
+      let p = on (corner (a.r + 1) (a.c + 2)) (corner a.r (a.c + 1)) (among-up a _ dark (inr (inr (inl refl)))) at in
+      let m = centre-at true (corner (a.r + 1) (a.c + 2)) (corner a.r (a.c + 1)) dark centre at in
+      (λ i. tested (p.1 i) (falls (corner a.r (a.c + 1)) (corner (a.r + 1) a.c)) (falls (corner (a.r + 1) a.c) (corner (a.r + 1) (a.c + 2))))
+      ∙ sym (letter-named 62 a b (right-is a b (omega (arith, m)) (omega (arith, m))))
+  up-letter on off centre dark (inr (inr (inr never))) = absurd never
+
+  down-letter : On Triangle → Off Triangle → IsCentre Triangle (not (is_dark a)) b.r b.c e → is_dark a ≡ false → In e (map step_along (down_sides a)) → letter_by falls ends_down ≡ letter a (Some b)
+  down-letter on off centre light (inl at) =
+      let p = off (corner (a.r + 1) (a.c + 1)) (corner a.r (a.c + 2)) (among-down a _ light (inr (inl refl))) (λ q. omega (arith, same_ends (is_dark a) _ _ _ _ (sym q ∙ at))) in
+      let l = on (corner a.r a.c) (corner (a.r + 1) (a.c + 1)) (among-down a _ light (inl refl)) at in
+      let m = centre-at false (corner a.r a.c) (corner (a.r + 1) (a.c + 1)) light centre at in
+      (λ i. tested (p.1 i) (l.0 i) (falls (corner (a.r + 1) (a.c + 1)) (corner (a.r + 1) (a.c + 1)))) ∙ sym (letter-named 60 a b (left-is a b (omega (arith, m)) (omega (arith, m))))
+  down-letter on off centre light (inr (inl at)) =
+      let p = on (corner (a.r + 1) (a.c + 1)) (corner a.r (a.c + 2)) (among-down a _ light (inr (inl refl))) at in
+      let m = centre-at false (corner (a.r + 1) (a.c + 1)) (corner a.r (a.c + 2)) light centre at in
+      (λ i. tested (p.1 i) (falls (corner a.r a.c) (corner (a.r + 1) (a.c + 1))) (falls (corner (a.r + 1) (a.c + 1)) (corner (a.r + 1) (a.c + 1))))
+      ∙ sym (letter-named 62 a b (right-is a b (omega (arith, m)) (omega (arith, m))))
+  down-letter on off centre light (inr (inr (inl at))) =
+      let p = off (corner (a.r + 1) (a.c + 1)) (corner a.r (a.c + 2)) (among-down a _ light (inr (inl refl))) (λ q. omega (arith, same_ends (is_dark a) _ _ _ _ (sym q ∙ at))) in
+      let l = off (corner a.r a.c) (corner (a.r + 1) (a.c + 1)) (among-down a _ light (inl refl)) (λ q. omega (arith, same_ends (is_dark a) _ _ _ _ (sym q ∙ at))) in
+      let m = centre-at false (corner a.r (a.c + 2)) (corner a.r a.c) light centre at in
+      (λ i. tested (p.1 i) (l.0 i) (none (corner (a.r + 1) (a.c + 1)) i)) ∙ sym (letter-named 94 a b (above-is a b (omega (arith, m)) (omega (arith, m))))
+  down-letter on off centre light (inr (inr (inr never))) = absurd never
+
+  kind-letter : (k : Kind) → On k → Off k → IsCentre k (not (is_dark a)) b.r b.c e → In e (steps_round k a) → letter_by falls (ends_of k a) ≡ letter a (Some b)
+  kind-letter Square on off centre i = square-letter on off centre i
+  kind-letter Triangle on off centre i = go (is_dark a) refl i
+    where
+      go : (t : Bool) → is_dark a ≡ t → In e (map step_along (cond t (up_sides a) (down_sides a))) → letter_by falls (ends_of Triangle a) ≡ letter a (Some b)
+      go true dark i = ap (λ (t : Bool). letter_by falls (cond t ends_up ends_down)) dark ∙ up-letter on off centre dark i
+      go false light i = ap (λ (t : Bool). letter_by falls (cond t ends_up ends_down)) light ∙ down-letter on off centre light i
+
+-- ---- the letter of a cell
+
+-- the letter by the heights of a tiling is that of the partner
+pub letter-partner : (R : Region) (A : List Tile) (numbers : List ℤ) (a : Cell) → IsTrue (is_tiling R A) → AreHeights R A numbers → has R a ≡ true
+    → letter_by (falls_between R numbers) (ends_of R.kind a) ≡ letter a (partner A a)
+letter-partner R A numbers a tiling h e = go (across R A (tiling-parts R A tiling) a a_in)
+  where
+    a_in : In a R.cells
+    a_in = has-In R a e
+
+    go : Across R A a → letter_by (falls_between R numbers) (ends_of R.kind a) ≡ letter a (partner A a)
+    go x =
+        kind-letter (falls_between R numbers) (λ u. near-itself (height R numbers u)) a x.mate x.step R.kind on off centre x.crossing.inside
+        ∙ ap (letter a) (sym x.partner_is)
+      where
+        -- the test of a side, both ways, is whether its step is crossed
+        told : (u v : Corner) → In (side a u v) (sides R.kind a)
+            → (falls_between R numbers u v ≡ is_crossed R A (directed (is_dark a) u v)) × (falls_between R numbers v u ≡ is_crossed R A (directed (is_dark a) u v))
+        told u v j = either (is_dark a) (In-map step_along (side a u v) (sides R.kind a) j)
+          where
+            either : (t : Bool) → In (directed t u v) (steps_round R.kind a)
+                → (falls_between R numbers u v ≡ is_crossed R A (directed t u v)) × (falls_between R numbers v u ≡ is_crossed R A (directed t u v))
+            either true k = far R.kind (height R numbers u) (height R numbers v) (is_crossed R A (u, v)) (h.along u v (is_step-from R a u v a_in k))
+            either false k =
+                let p = far R.kind (height R numbers v) (height R numbers u) (is_crossed R A (v, u)) (h.along v u (is_step-from R a v u a_in k)) in
+                (p.1, p.0)
+
+        on : (u v : Corner) → In (side a u v) (sides R.kind a) → x.step ≡ directed (is_dark a) u v → (falls_between R numbers u v ≡ true) × (falls_between R numbers v u ≡ true)
+        on u v j at =
+            let p = told u v j in
+            let crossed : is_crossed R A (directed (is_dark a) u v) ≡ true = subst (λ (d : Step). is_crossed R A d ≡ true) at x.crossing.crossed in
+            (p.0 ∙ crossed, p.1 ∙ crossed)
+
+        off : (u v : Corner) → In (side a u v) (sides R.kind a) → (x.step ≡ directed (is_dark a) u v → ⊥) → (falls_between R numbers u v ≡ false) × (falls_between R numbers v u ≡ false)
+        off u v j differ =
+            let p = told u v j in
+            let kept : is_crossed R A (directed (is_dark a) u v) ≡ false =
+            false_from_ne_true _ (λ c. differ (sym (x.crossing.only (directed (is_dark a) u v) (In-map step_along (side a u v) (sides R.kind a) j) c))) in
+            (p.0 ∙ kept, p.1 ∙ kept)
+
+        -- the partner has the other colour
+        colour : is_dark x.mate ≡ not (is_dark a)
+        colour = other (is_dark a) (is_dark x.mate) refl refl
+          where
+            other : (s t : Bool) → is_dark a ≡ s → is_dark x.mate ≡ t → t ≡ not s
+            other true true p q = absurd (x.differ (cell-one R.kind a x.mate x.step (p ∙ sym q) x.crossing.inside x.there))
+            other true false p q = refl
+            other false true p q = refl
+            other false false p q = absurd (x.differ (cell-one R.kind a x.mate x.step (p ∙ sym q) x.crossing.inside x.there))
+
+        centre : IsCentre R.kind (not (is_dark a)) x.mate.r x.mate.c x.step
+        centre = subst (λ (t : Bool). IsCentre R.kind t x.mate.r x.mate.c x.step) colour (round-centre R.kind x.mate x.step x.there)
+
+-- ---- the ends of a cell's sides are corners of the region
+
+pub record AreCorners (R : Region) (e : Ends) : Type 0 where
+  pub upper_left : IsTrue (is_corner_of R e.upper_left)
+  pub upper_right : IsTrue (is_corner_of R e.upper_right)
+  pub lower_left : IsTrue (is_corner_of R e.lower_left)
+  pub lower_right : IsTrue (is_corner_of R e.lower_right)
+
+abbrev Among : List Corner → Ends → Type 0
+Among vs e = In e.upper_left vs × In e.upper_right vs × In e.lower_left vs × In e.lower_right vs
+
+ends-corners : (k : Kind) (a : Cell) → Among (corners k a) (ends_of k a)
+ends-corners Square a = (inl refl, inr (inl refl), inr (inr (inl refl)), inr (inr (inr (inl refl))))
+ends-corners Triangle a = go (is_dark a)
+  where
+    go : (t : Bool) → Among
+        (cond t (corner a.r (a.c + 1) ∷ corner (a.r + 1) a.c ∷ corner (a.r + 1) (a.c + 2) ∷ []) (corner a.r a.c ∷ corner a.r (a.c + 2) ∷ corner (a.r + 1) (a.c + 1) ∷ []))
+        (cond t
+        (record {
+          upper_left = corner a.r (a.c + 1);
+          upper_right = corner a.r (a.c + 1);
+          lower_left = corner (a.r + 1) a.c;
+          lower_right = corner (a.r + 1) (a.c + 2);
+        })
+        (record {
+          upper_left = corner a.r a.c;
+          upper_right = corner a.r (a.c + 2);
+          lower_left = corner (a.r + 1) (a.c + 1);
+          lower_right = corner (a.r + 1) (a.c + 1);
+        }))
+    go true = (inl refl, inl refl, inr (inl refl), inr (inr (inl refl)))
+    go false = (inl refl, inr (inl refl), inr (inr (inl refl)), inr (inr (inl refl)))
+
+pub ends-of_region : (R : Region) (a : Cell) → has R a ≡ true → AreCorners R (ends_of R.kind a)
+ends-of_region R a e =
+    let p : Among (corners R.kind a) (ends_of R.kind a) = ends-corners R.kind a in
+    let i : In a R.cells = has-In R a e in
+    record {
+      upper_left = corner_of-from R a _ i p.0;
+      upper_right = corner_of-from R a _ i p.1;
+      lower_left = corner_of-from R a _ i p.2;
+      lower_right = corner_of-from R a _ i p.3;
+    }
+
+-- ---- a place that is no cell of the region
+
+find-none : {A : Type 0} (p : A → Bool) (xs : List A) → ((x : A) → In x xs → p x ≡ false) → find p xs ≡ None
+find-none p [] f = refl
+find-none p (x ∷ xs) f = rw (f x (inl refl)) (find-none p xs (λ y i. f y (inr i)))
+
+pub letter-outside : (R : Region) (A : List Tile) (a : Cell) → IsTrue (is_tiling R A) → has R a ≡ false → 46 ≡ letter a (partner A a)
+letter-outside R A a tiling e =
+    sym (ap (λ (o : Option Tile). letter a (option_map (λ t. other_cell t a) o)) (find-none (λ t. covers t a) A missed))
+  where
+    inside : (t : Tile) → In t A → (a ≡ t.first) ⊎ (a ≡ t.second) → has R a ≡ true
+    inside t i (inl same) = subst (λ (x : Cell). has R x ≡ true) (sym same) (In-has R t.first ((tiling-parts R A tiling).tiles t i).first)
+    inside t i (inr same) = subst (λ (x : Cell). has R x ≡ true) (sym same) (In-has R t.second ((tiling-parts R A tiling).tiles t i).second)
+
+    missed : (t : Tile) → In t A → covers t a ≡ false
+    missed t i = false_from_ne_true (covers t a) (λ c. cc (e, inside t i (covers-cases t a c)))
