@@ -11,7 +11,7 @@ use Rattle.tl_definitions.specs.Lattice.{corner, is_corner, corners, steps_out}
 use Rattle.tl_definitions.specs.Region.{Region, present, is_corner_of, is_inner}
 use Rattle.tl_definitions.proofs.Sublists.{In}
 use Rattle.tl_lattice.specs.Places.{padded}
-use Rattle.tl_region.specs.Grid.{IsKept}
+use Rattle.tl_grid.specs.Grid.{IsKept}
 use Rattle.tl_closing.specs.Standing.{steps_in}
 use Rattle.tl_closing.proofs.Steps.{corner_same, IsMove, step-move}
 use Rattle.tl_closing.proofs.Sides.{dark-from, corners-table, corner_table}

@@ -4,3 +4,4 @@ pub mod InnerSteps
 pub mod StandingLemmas
 pub mod LetterLemmas
 pub mod RowLemmas
+mod FillLemmas

@@ -3,9 +3,11 @@
 //! Height functions after W. P. Thurston, "Conway's Tiling Groups".
 #![tactic(auto)]
 
+mod filling;
 mod heights;
 mod letters;
 mod standing;
 
+pub use filling::of_tiling;
 pub use heights::Heights;
 pub use standing::Standing;
