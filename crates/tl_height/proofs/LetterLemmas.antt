@@ -24,7 +24,7 @@ use Rattle.tl_closing.proofs.Centres.{IsCentre, round-centre, cell-one, cell-two
 use Rattle.tl_closing.proofs.Edges.{Step, has-In, In-has, round-step, is_step-from, corner_of-from}
 use Rattle.tl_closing.proofs.Crossed.{TilingParts, tiling-parts, is_crossed, crossed-parts, IsAcross, IsCrossing, one-crossed, covers-cases, covers-from}
 use Rattle.tl_closing.proofs.Standing.{up_sides, down_sides, among-up, among-down}
-use Rattle.tl_height.specs.declared.letters.Ends.{Ends}
+use Rattle.tl_height.specs.declared.sides.Ends.{Ends}
 use Rattle.tl_height.specs.Letters.{ends_of, falls_between}
 
 -- ---- beyond the crossed step of a cell lies its partner

@@ -5,3 +5,4 @@ pub mod StandingLemmas
 pub mod LetterLemmas
 pub mod RowLemmas
 mod FillLemmas
+pub mod Examples

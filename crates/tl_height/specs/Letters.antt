@@ -11,7 +11,7 @@ use Rattle.tl_definitions.specs.Region.{Region, upto}
 use Rattle.tl_definitions.specs.Tiling.{is_tiling, partner}
 use Rattle.tl_definitions.specs.Drawing.{letter, drawing}
 use Rattle.tl_definitions.specs.Heights.{height, AreHeights}
-use Rattle.tl_height.specs.declared.letters.Ends.{Ends}
+use Rattle.tl_height.specs.declared.sides.Ends.{Ends}
 
 -- the ends of the left and of the right side of a cell
 abbrev pub ends_of : Kind → Cell → Ends

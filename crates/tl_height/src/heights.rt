@@ -13,7 +13,7 @@ ghost use Rattle.tl_height.specs.HeightFunction.{put_at};
 ghost use Rattle.tl_height.specs.Letters.{IsDrawnFrom, falls_between, row_text};
 ghost use Rattle.tl_height.specs.Standing.{standing};
 
-use crate::letters::side_ends;
+use crate::sides::side_ends;
 use crate::standing::{Standing, steps_in};
 use std::alloc::{AllocError, Global};
 use std::marker::Model;
@@ -74,6 +74,38 @@ impl<'a> Heights<'a> {
     {
         let width = self.region.columns() as usize + 2;
         self.numbers[corner.r as usize * width + corner.x as usize]
+    }
+
+    /// A copy.
+    ///
+    /// # Errors
+    /// Want of memory.
+    pub fn copy(&self, alloc: Global) -> Result<Heights<'a>, AllocError>
+        ensures { IfOk result (λ h. h ≡ self.now) }
+    {
+        let numbers = self.numbers.to_vec(alloc)?;
+        Ok(Heights {
+            region: self.region,
+            numbers,
+        })
+    }
+
+    /// Takes over the heights of another height function of the same region.
+    pub fn copy_from(&mut self, other: &Heights)
+        requires { self.old.region ≡ other.now.region }
+        ensures { self.new ≡ other.now }
+    {
+        self.numbers.copy_from_slice(other.numbers.as_slice());
+    }
+
+    /// Puts these numbers in the place of those from a place on. The heights have to be lawful with them.
+    pub fn put(&mut self, place: usize, numbers: &[i32])
+        requires within { place + length numbers.now ≤ length self.old.numbers }
+        requires lawful { AreLawful self.old.region (put_at place numbers.now self.old.numbers) }
+        ensures region { self.new.region ≡ self.old.region }
+        ensures numbers { self.new.numbers ≡ put_at place numbers.now self.old.numbers }
+    {
+        self.numbers[place..place + numbers.len()].copy_from_slice(numbers);
     }
 
     /// How the tiling with these heights stands at the inner corner of this number, in raster order from 0.
@@ -196,37 +228,5 @@ impl<'a> Heights<'a> {
         ensures { result ≡ falls_between self.now.region self.now.numbers first second }
     {
         self.at(first).abs_diff(self.at(second)) > 1
-    }
-
-    /// A copy.
-    ///
-    /// # Errors
-    /// Want of memory.
-    pub fn copy(&self, alloc: Global) -> Result<Heights<'a>, AllocError>
-        ensures { IfOk result (λ h. h ≡ self.now) }
-    {
-        let numbers = self.numbers.to_vec(alloc)?;
-        Ok(Heights {
-            region: self.region,
-            numbers,
-        })
-    }
-
-    /// Takes over the heights of another height function of the same region.
-    pub fn copy_from(&mut self, other: &Heights)
-        requires { self.old.region ≡ other.now.region }
-        ensures { self.new ≡ other.now }
-    {
-        self.numbers.copy_from_slice(other.numbers.as_slice());
-    }
-
-    /// Puts these numbers in the place of those from a place on. The heights have to be lawful with them.
-    pub fn put(&mut self, place: usize, numbers: &[i32])
-        requires within { place + length numbers.now ≤ length self.old.numbers }
-        requires lawful { AreLawful self.old.region (put_at place numbers.now self.old.numbers) }
-        ensures region { self.new.region ≡ self.old.region }
-        ensures numbers { self.new.numbers ≡ put_at place numbers.now self.old.numbers }
-    {
-        self.numbers[place..place + numbers.len()].copy_from_slice(numbers);
     }
 }

@@ -5,8 +5,10 @@
 
 mod filling;
 mod heights;
-mod letters;
+mod sides;
 mod standing;
+#[cfg(test)]
+mod tests;
 
 pub use filling::of_tiling;
 pub use heights::Heights;

@@ -7,7 +7,7 @@ use Rattle.tl_definitions.specs.Tiling.{is_tiling, partner}
 use Rattle.tl_definitions.specs.Drawing.{letter}
 use Rattle.tl_definitions.specs.Heights.{AreHeights}
 use Rattle.tl_definitions.proofs.Regions.{has-within}
-use Rattle.tl_height.specs.declared.letters.Ends.{Ends}
+use Rattle.tl_height.specs.declared.sides.Ends.{Ends}
 use Rattle.tl_height.specs.HeightFunction.{HeightFunction}
 use Rattle.tl_height.specs.Letters.{ends_of, falls_between}
 use Rattle.tl_height.proofs.LetterLemmas.{tested, letter_by, letter-partner, letter-outside, AreCorners, ends-of_region}
@@ -41,11 +41,18 @@ table c = c.side_ends-ends.ensures ∙ ap (λ (k : Kind). ends_of k c.args.cell)
 corners : (c : After-side_ends-ends) → AreCorners c.args.self.now.region c.side_ends-ends.result
 corners c = subst (AreCorners c.args.self.now.region) (sym (table c)) (ends-of_region c.args.self.now.region c.args.cell (here c))
 
--- whatever the three tests say
-answer : (c : After-side_ends-ends) (on_right on_left on_lower : Bool)
-    → on_right ≡ falls_between c.args.self.now.region c.args.self.now.numbers c.side_ends-ends.result.upper_right c.side_ends-ends.result.lower_right
-    → on_left ≡ falls_between c.args.self.now.region c.args.self.now.numbers c.side_ends-ends.result.upper_left c.side_ends-ends.result.lower_left
-    → on_lower ≡ falls_between c.args.self.now.region c.args.self.now.numbers c.side_ends-ends.result.lower_left c.side_ends-ends.result.lower_right
+-- the three tests
+abbrev right_falls : After-side_ends-ends → Bool
+right_falls c = falls_between c.args.self.now.region c.args.self.now.numbers c.side_ends-ends.result.upper_right c.side_ends-ends.result.lower_right
+
+abbrev left_falls : After-side_ends-ends → Bool
+left_falls c = falls_between c.args.self.now.region c.args.self.now.numbers c.side_ends-ends.result.upper_left c.side_ends-ends.result.lower_left
+
+abbrev lower_falls : After-side_ends-ends → Bool
+lower_falls c = falls_between c.args.self.now.region c.args.self.now.numbers c.side_ends-ends.result.lower_left c.side_ends-ends.result.lower_right
+
+-- whatever they say
+answer : (c : After-side_ends-ends) (on_right on_left on_lower : Bool) → on_right ≡ right_falls c → on_left ≡ left_falls c → on_lower ≡ lower_falls c
     → (A : List Tile) → IsTrue (is_tiling c.args.self.now.region A) → AreHeights c.args.self.now.region A c.args.self.now.numbers
     → tested on_right on_left on_lower ≡ letter c.args.cell (partner A c.args.cell)
 answer c on_right on_left on_lower p l d A tiling h =
@@ -73,25 +80,25 @@ falls_between-requires-else-falls_between-2-clause-second c = (corners (goal.at.
 
 pub returns-then-falls_between : goal.returns-then-falls_between
 returns-then-falls_between c =
-    answer (goal.at.returns-then-falls_between c).After-side_ends-ends true
-    (falls_between c.args.self.now.region c.args.self.now.numbers c.side_ends-ends.result.upper_left c.side_ends-ends.result.lower_left)
-    (falls_between c.args.self.now.region c.args.self.now.numbers c.side_ends-ends.result.lower_left c.side_ends-ends.result.lower_right)
-    (sym c.if-falls_between.true ∙ c.falls_between.ensures) refl refl
+    let s = (goal.at.returns-then-falls_between c).After-side_ends-ends in
+    answer s true (left_falls s) (lower_falls s) (sym c.if-falls_between.true ∙ c.falls_between.ensures) refl refl
 
 pub returns-then-falls_between-2 : goal.returns-then-falls_between-2
 returns-then-falls_between-2 c =
-    answer (goal.at.returns-then-falls_between-2 c).After-side_ends-ends false true
-    (falls_between c.args.self.now.region c.args.self.now.numbers c.side_ends-ends.result.lower_left c.side_ends-ends.result.lower_right)
-    (sym c.if-falls_between.false ∙ c.falls_between.ensures) (sym c.if-falls_between-2.true ∙ c.falls_between-else-falls_between.ensures) refl
+    let s = (goal.at.returns-then-falls_between-2 c).After-side_ends-ends in
+    answer s false true (lower_falls s) (sym c.if-falls_between.false ∙ c.falls_between.ensures)
+    (sym c.if-falls_between-2.true ∙ c.falls_between-else-falls_between.ensures) refl
 
 pub returns-then-falls_between-3 : goal.returns-then-falls_between-3
 returns-then-falls_between-3 c =
-    answer (goal.at.returns-then-falls_between-3 c).After-side_ends-ends false false true
-    (sym c.if-falls_between.false ∙ c.falls_between.ensures) (sym c.if-falls_between-2.false ∙ c.falls_between-else-falls_between.ensures)
+    let s = (goal.at.returns-then-falls_between-3 c).After-side_ends-ends in
+    answer s false false true (sym c.if-falls_between.false ∙ c.falls_between.ensures)
+    (sym c.if-falls_between-2.false ∙ c.falls_between-else-falls_between.ensures)
     (sym c.if-falls_between-3.true ∙ c.falls_between-else-falls_between-2.ensures)
 
 pub returns-else-falls_between-3 : goal.returns-else-falls_between-3
 returns-else-falls_between-3 c =
-    answer (goal.at.returns-else-falls_between-3 c).After-side_ends-ends false false false
-    (sym c.if-falls_between.false ∙ c.falls_between.ensures) (sym c.if-falls_between-2.false ∙ c.falls_between-else-falls_between.ensures)
+    let s = (goal.at.returns-else-falls_between-3 c).After-side_ends-ends in
+    answer s false false false (sym c.if-falls_between.false ∙ c.falls_between.ensures)
+    (sym c.if-falls_between-2.false ∙ c.falls_between-else-falls_between.ensures)
     (sym c.if-falls_between-3.false ∙ c.falls_between-else-falls_between-2.ensures)

@@ -1,4 +1,4 @@
-//! Where the sides of a cell lie that its letter in a drawing may name.
+//! The corners between which the sides of a cell lie.
 
 ghost use Rattle.std.specs.Prelude.{◌≡◌, ◌≤◌, ◌^◌};
 ghost use Rattle.tl_height.specs.Letters.{ends_of};

@@ -1,0 +1,137 @@
+-- What meets the definitions, and what near them doesn't: the two tilings of the square of four cells.
+use Rattle.std.proofs.Common.{◌≡◌, ℕ, List, [], ◌∷◌, refl, sym, ◌∙◌, ap, subst, arith, codes, Result, Ok, ℤ, pos, negsuc, ◌+ℤ◌}
+use Rattle.std.specs.Prelude.{slice_index}
+use Rattle.tl_definitions.specs.declared.Kind.TheVariants.{Square}
+use Rattle.tl_definitions.specs.declared.Cell.{Cell}
+use Rattle.tl_definitions.specs.declared.Corner.{Corner}
+use Rattle.tl_definitions.specs.declared.Tile.{Tile}
+use Rattle.tl_definitions.specs.Lattice.{cell, corner}
+use Rattle.tl_definitions.specs.Region.{Region}
+use Rattle.tl_definitions.specs.RegionText.{region_of, IsRegionText, RegionRefusal}
+use Rattle.tl_definitions.specs.Accepted.{Accepted, IsCircuit}
+use Rattle.tl_definitions.specs.Drawing.{drawing}
+use Rattle.tl_definitions.specs.Heights.{height, climb, AreHeights, AreHeightsOf, AreLawful}
+use Rattle.tl_definitions.proofs.Cases.{drawn, walk_of}
+use Rattle.tl_definitions.proofs.Decide.{one_part}
+use Rattle.tl_definitions.proofs.Sublists.{In, Each, Each-at}
+use Rattle.tl_closing.specs.Closing.{steps_round}
+use Rattle.tl_closing.proofs.Edges.{Step, edges, In-edges, is_step-parts}
+use Rattle.tl_closing.proofs.Numbers.{numbers_of, numbers_of-heights}
+use Rattle.tl_closing.proofs.Crossed.{same-heights}
+use Rattle.tl_closing.proofs.Heights.{Start, start-of, heights-lawful}
+use Rattle.tl_height.specs.declared.standing.Standing.TheVariants.{High, Low, No}
+use Rattle.tl_height.specs.HeightFunction.{put_at}
+use Rattle.tl_height.specs.Standing.{standing}
+use Rattle.tl_height.specs.Letters.{IsDrawnFrom}
+
+abbrev pub two_two : Region
+two_two = region_of Square (codes "##" ∷ codes "##" ∷ [])
+
+abbrev level : List Tile
+level = drawn two_two (codes "><" ∷ codes "><" ∷ [])
+
+abbrev upright : List Tile
+upright = drawn two_two (codes "vv" ∷ codes "^^" ∷ [])
+
+-- three rows of the corner columns 0 to 3; no cell has a corner in column 3
+abbrev pub with_middle : ℤ → List ℤ
+with_middle h =
+    pos 0 ∷ negsuc 0 ∷ pos 0 ∷ pos 0 ∷ pos 1 ∷ h ∷ pos 1 ∷ pos 0 ∷ pos 0 ∷ negsuc 0 ∷ pos 0 ∷ pos 0 ∷ []
+
+circuit_two : IsCircuit two_two (walk_of two_two)
+circuit_two = record { on_boundary = refl; whole = refl; closed = refl; once = refl; first = refl }
+
+accepted_two : Accepted two_two
+accepted_two = record {
+  placed = refl;
+  nonempty = λ e. cc e;
+  joined = one_part two_two 4 (cell 0 0) refl refl;
+  no_pinch = refl;
+  circuit = (walk_of two_two, circuit_two);
+  euler = refl;
+}
+
+-- numbers that rise by the climbs along each edge, and stand where a corner is, are the heights of the tiling
+heights-by : (A : List Tile) (numbers : List ℤ) → numbers_of two_two (height two_two numbers) ≡ numbers → height two_two numbers (corner 0 0) ≡ pos 0
+    → Each (λ e. height two_two numbers e.1 ≡ height two_two numbers e.0 +ℤ climb two_two A e.0 e.1) (edges two_two) → AreHeights two_two A numbers
+heights-by A numbers listed zero each = record {
+  heights = subst (AreHeightsOf two_two) listed (numbers_of-heights two_two (height two_two numbers));
+  start = λ walk v c e. ap (height two_two numbers) (start.only walk v c e ∙ sym (start.only (walk_of two_two) (corner 0 0) circuit_two refl)) ∙ zero;
+  along = λ u v e. go u v (is_step-parts two_two u v e);
+}
+  where
+    start : Start two_two
+    start = start-of two_two accepted_two
+
+    go : (u v : Corner) → (a : Cell) × In a two_two.cells × In (u, v) (steps_round two_two.kind a) → height two_two numbers v ≡ height two_two numbers u +ℤ climb two_two A u v
+    go u v (a, i, j) =
+        Each-at (λ (e : Step). height two_two numbers e.1 ≡ height two_two numbers e.0 +ℤ climb two_two A e.0 e.1) (u, v) (edges two_two) each
+        (In-edges two_two refl a (u, v) i j)
+
+level_heights : AreHeights two_two level (with_middle (pos 2))
+level_heights =
+    heights-by level (with_middle (pos 2)) refl refl
+    (refl, (refl, (refl, (refl, (refl, (refl, (refl, (refl, (refl, (refl, (refl, (refl, tt))))))))))))
+
+upright_heights : AreHeights two_two upright (with_middle (negsuc 1))
+upright_heights =
+    heights-by upright (with_middle (negsuc 1)) refl refl
+    (refl, (refl, (refl, (refl, (refl, (refl, (refl, (refl, (refl, (refl, (refl, (refl, tt))))))))))))
+
+pub level_lawful : AreLawful two_two (with_middle (pos 2))
+level_lawful = heights-lawful two_two level (with_middle (pos 2)) accepted_two refl level_heights
+
+pub upright_lawful : AreLawful two_two (with_middle (negsuc 1))
+upright_lawful = heights-lawful two_two upright (with_middle (negsuc 1)) accepted_two refl upright_heights
+
+-- the region of this text
+pub two_two-text : (R : Region) → IsRegionText (codes "square" ∷ codes "##" ∷ codes "##" ∷ []) R → R ≡ two_two
+two_two-text R text = let same : ◌≡◌ {A = Result Region RegionRefusal} (Ok two_two) (Ok R) = text.0 in cc same
+
+-- ---- drawings
+
+abbrev level_text : List ℕ
+level_text = 62 ∷ 60 ∷ 10 ∷ 62 ∷ 60 ∷ 10 ∷ []
+
+level_drawn : IsDrawnFrom two_two (with_middle (pos 2)) level_text
+level_drawn = record {
+  tiles = level;
+  tiling = refl;
+  heights = level_heights;
+  drawn = refl;
+  only = λ others tiling heights.
+      same-heights two_two others level (height two_two (with_middle (pos 2))) (height two_two (with_middle (pos 2))) tiling refl heights.along level_heights.along (λ v e. refl);
+}
+
+-- the drawing of the other tiling isn't that of these heights, nor is one without its last line feed
+drawn-starts : (text : List ℕ) → IsDrawnFrom two_two (with_middle (pos 2)) text → text ≡ level_text
+drawn-starts text d = d.drawn ∙ ap (drawing two_two) (sym (d.only level refl level_heights))
+
+upright_not_drawn : IsDrawnFrom two_two (with_middle (pos 2)) (118 ∷ 118 ∷ 10 ∷ 94 ∷ 94 ∷ 10 ∷ []) → ⊥
+upright_not_drawn d = let e : 118 ≡ 62 = ap (λ (t : List ℕ). slice_index t 0) (drawn-starts _ d) in omega (arith, e)
+
+shorter_not_drawn : IsDrawnFrom two_two (with_middle (pos 2)) (62 ∷ 60 ∷ 10 ∷ 62 ∷ 60 ∷ []) → ⊥
+shorter_not_drawn d = let e : 0 ≡ 10 = ap (λ (t : List ℕ). slice_index t 5) (drawn-starts _ d) in omega (arith, e)
+
+-- ---- standing
+
+level_stands : standing two_two level (corner 1 1) ≡ High
+level_stands = refl
+
+upright_stands : standing two_two upright (corner 1 1) ≡ Low
+upright_stands = refl
+
+-- at a boundary corner a tiling doesn't stand, and at an inner one it may stand neither way
+boundary_stands : standing two_two level (corner 0 0) ≡ No
+boundary_stands = refl
+
+abbrev two_three : Region
+two_three = region_of Square (codes "###" ∷ codes "###" ∷ [])
+
+neither_stands : standing two_three (drawn two_three (codes "v><" ∷ codes "^><" ∷ [])) (corner 1 1) ≡ No
+neither_stands = refl
+
+-- ---- putting numbers
+
+put_in_the_middle : put_at 1 (pos 7 ∷ pos 8 ∷ []) (pos 0 ∷ pos 1 ∷ pos 2 ∷ pos 3 ∷ []) ≡ pos 0 ∷ pos 7 ∷ pos 8 ∷ pos 3 ∷ []
+put_in_the_middle = refl
