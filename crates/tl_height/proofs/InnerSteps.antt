@@ -18,7 +18,7 @@ use Rattle.tl_closing.proofs.Sides.{dark-from, corners-table, corner_table}
 use Rattle.tl_closing.proofs.Edges.{corner_of-from}
 use Rattle.tl_closing.proofs.Numbers.{corner-within}
 use Rattle.tl_closing.proofs.Ring.{HasRing, inner-ring}
-use Rattle.tl_height.specs.Standing.{left_reach}
+use Rattle.tl_height.specs.Standing.{left_reach, AreCornersOf}
 use Rattle.tl_height.proofs.PresentLemmas.{present-padded}
 
 -- where the steps at a corner lead to, or come from
@@ -156,14 +156,14 @@ present-Some [] = refl
 present-Some (x ∷ xs) = ap (λ (ys : List _). x ∷ ys) (present-Some xs)
 
 pub outs-of_region : (R : Region) (v : Corner) (places : List (Option Corner)) → is_inner R v ≡ true → places ≡ padded 3 (steps_out R.kind v)
-    → All (λ place. IfSome place (λ w. IsTrue (is_corner_of R w))) places
+    → AreCornersOf R places
 outs-of_region R v places inner same =
     each-place (λ w. IsTrue (is_corner_of R w)) places
     (λ w i. beside-of_region R v w inner (out-beside R.kind v w
     (subst (λ (ws : List Corner). In w ws) (ap (λ (os : List (Option Corner)). present os) same ∙ present-padded 3 (steps_out R.kind v)) i)))
 
 pub ins-of_region : (R : Region) (v : Corner) (places : List (Option Corner)) → IsInside R v → is_inner R v ≡ true → places ≡ padded 3 (map (λ u. Some u) (steps_in R.kind v))
-    → All (λ place. IfSome place (λ w. IsTrue (is_corner_of R w))) places
+    → AreCornersOf R places
 ins-of_region R v places inside inner same =
     each-place (λ w. IsTrue (is_corner_of R w)) places
     (λ w i. beside-of_region R v w inner (in-beside R.kind v w inside.above inside.left

@@ -1,10 +1,10 @@
 -- How a tiling stands at a corner.
-use Rattle.std.specs.Prelude.{ℕ, List, if◌then◌else◌}
+use Rattle.std.specs.Prelude.{ℕ, List, Option, All, IfSome, IsTrue, if◌then◌else◌}
 use Rattle.tl_definitions.specs.declared.Kind.{Kind}
 use Rattle.tl_definitions.specs.declared.Kind.TheVariants.{Square, Triangle}
 use Rattle.tl_definitions.specs.declared.Corner.{Corner}
 use Rattle.tl_definitions.specs.declared.Tile.{Tile}
-use Rattle.tl_definitions.specs.Region.{Region}
+use Rattle.tl_definitions.specs.Region.{Region, is_corner_of}
 use Rattle.tl_definitions.specs.Flip.{stands_high, stands_low}
 use Rattle.tl_height.specs.declared.standing.Standing.{Standing}
 use Rattle.tl_height.specs.declared.standing.Standing.TheVariants.{High, Low, No}
@@ -16,3 +16,7 @@ standing R A v = if stands_high R A v then High else (if stands_low R A v then L
 abbrev pub left_reach : Kind → ℕ
 left_reach Square = 1
 left_reach Triangle = 2
+
+-- the corners that are there are corners of the region
+abbrev pub AreCornersOf : Region → List (Option Corner) → Type 0
+AreCornersOf R corners = All (λ place. IfSome place (λ v. IsTrue (is_corner_of R v))) corners

@@ -1,6 +1,6 @@
 //! The type of height functions.
 
-ghost use Rattle.std.specs.Prelude.{◌≡◌, ◌+◌, ◌*◌, ◌<◌, ◌≤◌, List, length, slice_get, All, IfOk, IfSome, IsTrue, Some, int_lt};
+ghost use Rattle.std.specs.Prelude.{◌≡◌, ◌+◌, ◌*◌, ◌<◌, ◌≤◌, List, length, slice_get, IfOk, IsTrue, Some, int_lt};
 ghost use Rattle.std.specs.List.{list_all};
 ghost use Rattle.tl_definitions.specs.declared.Corner.{Corner};
 ghost use Rattle.tl_definitions.specs.declared.Tile.{Tile};
@@ -11,7 +11,7 @@ ghost use Rattle.tl_definitions.specs.Heights.{height, AreHeights, AreLawful};
 ghost use Rattle.tl_closing.specs.Standing.{falls_from, falls_to};
 ghost use Rattle.tl_height.specs.HeightFunction.{put_at};
 ghost use Rattle.tl_height.specs.Letters.{IsDrawnFrom, falls_between, row_text};
-ghost use Rattle.tl_height.specs.Standing.{standing};
+ghost use Rattle.tl_height.specs.Standing.{AreCornersOf, standing};
 
 use crate::sides::side_ends;
 use crate::standing::{Standing, steps_in};
@@ -144,7 +144,7 @@ impl<'a> Heights<'a> {
 
     // Whether the height of each of these corners is below a number.
     fn are_below(&self, corners: &[Option<Corner>], number: i32) -> bool
-        requires { All (λ place. IfSome place (λ v. IsTrue (is_corner_of self.now.region v))) corners.now }
+        requires { AreCornersOf self.now.region corners.now }
         ensures { result ≡ list_all (λ v. int_lt (height self.now.region self.now.numbers v) number) (present corners.now) }
     {
         for corner in corners {
@@ -160,7 +160,7 @@ impl<'a> Heights<'a> {
 
     // Whether the height of each of these corners is above a number.
     fn are_above(&self, corners: &[Option<Corner>], number: i32) -> bool
-        requires { All (λ place. IfSome place (λ v. IsTrue (is_corner_of self.now.region v))) corners.now }
+        requires { AreCornersOf self.now.region corners.now }
         ensures { result ≡ list_all (λ v. int_lt number (height self.now.region self.now.numbers v)) (present corners.now) }
     {
         for corner in corners {
