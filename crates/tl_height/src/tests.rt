@@ -1,10 +1,66 @@
-//! The two height functions of the square of four cells, by hand.
+//! The two height functions of the square of four cells, by hand, and tilings drawn again from their heights.
+
+ghost use Rattle.std.specs.Prelude.{◌≤◌, ◌^◌, length};
 
 use crate::standing::steps_in;
-use crate::{Heights, Standing};
-use std::alloc::AllocError;
+use crate::{Heights, Standing, of_tiling};
+use std::alloc::{AllocError, Global};
+use tl_boundary::circuit;
 use tl_lattice::{Corner, Kind};
 use tl_region::read_region;
+use tl_tiling::read_drawing;
+
+// The letters and the numbers of the heights of a drawn tiling.
+fn redrawn(alloc: Global, text: &[u8], drawing: &[u8]) -> Option<(Vec<u8>, Vec<i32>)>
+    requires text { length text.now ≤ 2 ^ 22 }
+    requires drawing { length drawing.now ≤ 2 ^ 22 }
+{
+    let (region, _) = read_region(alloc, text).ok()?;
+    let (tiling, _) = read_drawing(alloc, &region, drawing).ok()?;
+    let circuit = circuit(alloc, &region).ok()?;
+    let heights = of_tiling(alloc, &region, &circuit, &tiling).ok()?;
+    let size = region.rows() as usize * (region.columns() as usize + 1);
+    let mut letters = vec![in alloc; b'?'; size].ok()?;
+    heights.to_letters(&mut letters);
+    let numbers = heights.numbers().to_vec(alloc).ok()?;
+    Some((letters, numbers))
+}
+
+#[test]
+fn heights_draw_their_tiling_again(rt: HostRuntime) {
+    let cases: [(&[u8], &[u8]); 8] = [
+        (b"square\n##\n##\n", b"><\n><\n"),
+        (b"square\n##\n##\n", b"vv\n^^\n"),
+        (b"square\n###\n###\n", b"><v\n><^\n"),
+        (b"triangle\n###\n###\n", b"><v\n><^\n"),
+        (b"square\n##\n", b"><\n"),
+        (b"triangle\n##\n", b"><\n"),
+        (b"square\n.##\n##.\n", b".><\n><.\n"),
+        (
+            b"square\n.##.\n####\n####\n.##.\n",
+            b".vv.\nv^^v\n^vv^\n.^^.\n",
+        ),
+    ];
+    for (text, drawing) in cases {
+        let redrawn = redrawn(rt.alloc(), text, drawing);
+        assert!(rt; redrawn.is_some());
+        if let Some((letters, _)) = redrawn {
+            assert_eq!(rt; letters.as_slice(), drawing);
+        }
+    }
+}
+
+#[test]
+fn the_middle_of_a_square_is_high_or_low(rt: HostRuntime) {
+    for (drawing, middle) in [(b"><\n><\n".as_slice(), 2i32), (b"vv\n^^\n", -2)] {
+        let redrawn = redrawn(rt.alloc(), b"square\n##\n##\n", drawing);
+        assert!(rt; redrawn.is_some());
+        if let Some((_, numbers)) = redrawn {
+            let wanted = [0, -1, 0, 0, 1, middle, 1, 0, 0, -1, 0, 0];
+            assert_eq!(rt; numbers.as_slice(), wanted.as_slice());
+        }
+    }
+}
 
 #[test]
 fn a_square_has_two_height_functions(rt: HostRuntime) -> Result<(), AllocError> {
