@@ -26,6 +26,26 @@ fn redrawn(alloc: Global, text: &[u8], drawing: &[u8]) -> Option<(Vec<u8>, Vec<i
     Some((letters, numbers))
 }
 
+fn is_redrawn(alloc: Global, text: &[u8], drawing: &[u8]) -> bool
+    requires text { length text.now ≤ 2 ^ 22 }
+    requires drawing { length drawing.now ≤ 2 ^ 22 }
+{
+    match redrawn(alloc, text, drawing) {
+        Some((letters, _)) => letters[..] == drawing[..],
+        None => false,
+    }
+}
+
+// Whether this drawing of the square of four cells has these heights.
+fn has_numbers(alloc: Global, drawing: &[u8], wanted: &[i32]) -> bool
+    requires { length drawing.now ≤ 2 ^ 22 }
+{
+    match redrawn(alloc, b"square\n##\n##\n", drawing) {
+        Some((_, numbers)) => numbers[..] == wanted[..],
+        None => false,
+    }
+}
+
 #[test]
 fn heights_draw_their_tiling_again(rt: HostRuntime) {
     let cases: [(&[u8], &[u8]); 8] = [
@@ -42,24 +62,18 @@ fn heights_draw_their_tiling_again(rt: HostRuntime) {
         ),
     ];
     for (text, drawing) in cases {
-        let redrawn = redrawn(rt.alloc(), text, drawing);
-        assert!(rt; redrawn.is_some());
-        if let Some((letters, _)) = redrawn {
-            assert_eq!(rt; letters.as_slice(), drawing);
-        }
+        assert!(rt; is_redrawn(rt.alloc(), text, drawing));
     }
 }
 
 #[test]
 fn the_middle_of_a_square_is_high_or_low(rt: HostRuntime) {
-    for (drawing, middle) in [(b"><\n><\n".as_slice(), 2i32), (b"vv\n^^\n", -2)] {
-        let redrawn = redrawn(rt.alloc(), b"square\n##\n##\n", drawing);
-        assert!(rt; redrawn.is_some());
-        if let Some((_, numbers)) = redrawn {
-            let wanted = [0, -1, 0, 0, 1, middle, 1, 0, 0, -1, 0, 0];
-            assert_eq!(rt; numbers.as_slice(), wanted.as_slice());
-        }
-    }
+    let high = [0, -1, 0, 0, 1, 2, 1, 0, 0, -1, 0, 0];
+    assert!(rt; has_numbers(rt.alloc(), b"><\n><\n", &high));
+    assert!(rt; !has_numbers(rt.alloc(), b"vv\n^^\n", &high));
+    let low = [0, -1, 0, 0, 1, -2, 1, 0, 0, -1, 0, 0];
+    assert!(rt; has_numbers(rt.alloc(), b"vv\n^^\n", &low));
+    assert!(rt; !has_numbers(rt.alloc(), b"><\n><\n", &low));
 }
 
 #[test]
