@@ -1,22 +1,8 @@
 -- From what the program hears and writes to a run.
-use Rattle.std.proofs.Common.{◌≡◌, inl, inr, ℕ, ◌^◌, Bool, true, false, List, [], ◌∷◌, length, Option, Some, None, Result, Ok, Err, refl, sym, ap, subst, append-nil}
-use Rattle.std.specs.Prelude.{MatchBool, MatchOption, codes, nat_lt, if◌then◌else◌}
+use Rattle.std.proofs.Common.{◌≡◌, inl, inr, ℕ, List, [], Option, Some, None, refl, sym, ap, subst, append-nil}
 use Rattle.std.specs.Io.KnownBytes.{append_known}
-use Rattle.tl_definitions.specs.declared.Cell.{Cell}
-use Rattle.tl_definitions.specs.declared.Command.{Command}
-use Rattle.tl_definitions.specs.declared.Command.TheVariants.{Check, Decide, Refute, Flips, Distance, Sample, Gen}
-use Rattle.tl_definitions.specs.Region.{Region}
-use Rattle.tl_definitions.specs.Input.{Section, first_section, further_section, rest_is_empty}
-use Rattle.tl_definitions.specs.RegionText.{RegionRefusal, region_of_lines, empty}
-use Rattle.tl_definitions.specs.Drawing.{DrawingRefusal, drawing_refusal}
-use Rattle.tl_definitions.specs.Words.{command}
-use Rattle.tl_definitions.specs.Texts.{line}
 use Rattle.tl_io.specs.Writes.{IsPrefixOf, AppendsPart}
-use Rattle.tilings.specs.Answers.{Answer, answer, usage_text}
-use Rattle.tilings.specs.Refusals.{region_refusal_text}
-use Rattle.tilings.specs.Commands.{is_there}
-use Rattle.tilings.specs.Check.{check_refusal, CheckReply}
-use Rattle.tilings.specs.Replies.{InputReply, CommandReply, Reply}
+use Rattle.tilings.specs.Answers.{Answer}
 use Rattle.tilings.specs.Runs.{is_whole, IsRun}
 use Rattle.tilings.specs.Hearings.{Hears, HearsPart}
 
