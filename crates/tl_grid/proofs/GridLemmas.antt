@@ -1,4 +1,4 @@
--- The flags of a rectangle, and what the cells of a region that was read are.
+-- The flags of a rectangle, and what the cells of a grid are.
 use Rattle.std.proofs.Common.{◌≡◌, ◌≢◌, ℕ, zero, suc, ◌+◌, ◌*◌, ◌/◌, ◌<◌, ◌≤◌, ◌⊎◌, inl, inr, Bool, true, false, ◌||◌, List, [], ◌∷◌, map, length, take, refl, sym, ◌∙◌, ap, arith, get_or, replicate}
 use Rattle.std.specs.Prelude.{◌==◌, slice_set, filter, flat_map, All}
 use Rattle.std.specs.List.{list_any, range_with_len}
@@ -77,7 +77,7 @@ flags_more rows columns cells flags i x d h e xr xc f =
         place_of : a.r ≡ x.r → a.c ≡ x.c → a.r * columns + a.c ≡ x.r * columns + x.c
         place_of r c = ap (λ (n : ℕ). n * columns + a.c) r ∙ ap (λ (n : ℕ). x.r * columns + n) c
 
--- ---- the cells of a region that was read
+-- ---- the cells of a grid
 
 length-places : (rows columns s : ℕ) → length (flat_map (λ r. map (λ c. cell r c) (upto columns)) (range_with_len s rows)) ≡ rows * columns
 length-places zero columns s = omega arith

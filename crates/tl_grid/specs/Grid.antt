@@ -15,8 +15,8 @@ pub record AreFlagsOf (rows columns : ℕ) (cells : List Cell) (flags : List Boo
   pub size : length flags ≡ rows * columns
   pub is_set : (a : Cell) → a.r < rows → a.c < columns → flag_at columns flags a ≡ list_any (cell_eq a) cells
 
--- What holds of every region that was read: its cells stand in raster order, each once, within its rows and
--- columns; there is one; and there are at most 512 rows and 512 columns.
+-- What holds of every grid: its cells stand in raster order, each once, within its rows and columns; there is
+-- one; and there are at most 512 rows and 512 columns.
 pub record IsKept (R : Region) : Type 0 where
   pub placed : IsPlaced R
   pub nonempty : R.cells ≢ []

@@ -8,7 +8,7 @@ use std::marker::Model;
 use tl_lattice::{Cell, Kind};
 
 /// Finitely many cells of one lattice: at least one, in at most 512 rows and 512 columns. A look-up of a cell
-/// takes constant time.
+/// takes constant time. Clauses see it as a region of the definitions, which need not be accepted.
 #[derive(Drop)]
 pub struct Grid {
     kind: Kind,
@@ -53,7 +53,7 @@ impl Grid {
         }
     }
 
-    /// The lattice of the region.
+    /// The lattice of the cells.
     pub fn kind(&self) -> Kind
         ensures kind { result ≡ self.now.kind }
         ensures kept { IsKept self.now }
@@ -61,7 +61,7 @@ impl Grid {
         self.kind
     }
 
-    /// The number of rows of the region's text.
+    /// The number of rows. Each cell is in one of them.
     pub fn rows(&self) -> u32
         ensures rows { result ≡ self.now.rows }
         ensures kept { IsKept self.now }
@@ -69,7 +69,7 @@ impl Grid {
         self.rows
     }
 
-    /// The number of columns of the region's text: the greatest number of bytes in one of its rows.
+    /// The number of columns. Each cell is in one of them.
     pub fn columns(&self) -> u32
         ensures columns { result ≡ self.now.columns }
         ensures kept { IsKept self.now }
@@ -101,7 +101,7 @@ impl Grid {
         self.cells.as_slice()
     }
 
-    /// The place of a cell of the region in a list of all places, row by row.
+    /// The place of a cell of the grid in a list of all places, row by row.
     pub fn place(&self, cell: Cell) -> usize
         requires { has self.now cell ≡ true }
         ensures place { result ≡ cell.r * self.now.columns + cell.c }
@@ -111,7 +111,7 @@ impl Grid {
         cell.r as usize * self.columns as usize + cell.c as usize
     }
 
-    /// Whether the cell is one of the region.
+    /// Whether the cell is one of the grid.
     pub fn has(&self, cell: Cell) -> bool
         ensures { result ≡ has self.now cell }
     {
