@@ -73,7 +73,7 @@ marked-more R start v m n s p (walk, w, a) unmarked is flags width =
       walk ++ s ∷ [],
       walk-more R start s walk found.0 (subst (λ z. IsWalk R start z walk) (sym here) w) (λ j. new (subst (λ z. In z (circuit_corners walk)) here j)),
       subst (AreMarked R n) (sym (map-push (λ (t : Side). t.from) walk s))
-      (subst (λ z. AreMarked R n (circuit_corners walk ++ z ∷ [])) (sym here) (marks-more R m n v (circuit_corners walk) a p.row p.column flags width)),
+          (subst (λ z. AreMarked R n (circuit_corners walk ++ z ∷ [])) (sym here) (marks-more R m n v (circuit_corners walk) a p.row p.column flags width)),
     )
   where
     new : In v (circuit_corners walk) → ⊥

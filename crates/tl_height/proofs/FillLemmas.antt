@@ -1,7 +1,7 @@
 -- The heights of a tiling in raster order, as they are filled in.
-use Rattle.std.proofs.Common.{w32, w64, ◌≡◌, ℕ, suc, ◌+◌, ◌-◌, ◌*◌, ◌%◌, ◌^◌, ◌<◌, ◌≤◌, ◌⊎◌, inl, inr, Bool, true, false, ◌&&◌, List, [], ◌∷◌, ◌++◌, length, take, cond, Option, Some, None, refl, sym, ◌∙◌, ap, subst, arith, get_or, ℤ, pos, negsuc, ◌+ℤ◌, ◌-ℤ◌, neg_ℤ, ◌≤ℤ◌}
+use Rattle.std.proofs.Common.{w32, w64, ◌≡◌, ℕ, ◌+◌, ◌-◌, ◌*◌, ◌%◌, ◌^◌, ◌<◌, ◌≤◌, Bool, true, false, ◌&&◌, List, length, take, cond, Option, Some, None, refl, sym, ◌∙◌, ap, subst, arith, get_or, ℤ, pos, negsuc, ◌+ℤ◌, ◌-ℤ◌, neg_ℤ, ◌≤ℤ◌}
 use mir.Val.{SFits, to_z, of_z}
-use Rattle.std.specs.Prelude.{◌==◌, slice_get, position, find, is_some, IsTrue}
+use Rattle.std.specs.Prelude.{◌==◌, slice_get, position, find, IsTrue}
 use Rattle.std.specs.List.{list_any, position_or_len}
 use Rattle.std.proofs.lemmas.List.Folds.{find_at}
 use Rattle.std.proofs.lemmas.Int.{ints}

@@ -1,4 +1,4 @@
-use Rattle.std.proofs.Common.{find, ap, arith, sym, ◌∙◌}
+use Rattle.std.proofs.Common.{find, ap, arith, ◌∙◌}
 use Rattle.tl_definitions.specs.Lattice.{corner}
 use Rattle.tl_definitions.specs.Boundary.{is_boundary_corner}
 use Rattle.tl_definitions.proofs.NextCorner.{boundary_corner-exit}

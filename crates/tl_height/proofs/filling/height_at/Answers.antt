@@ -1,6 +1,5 @@
-use Rattle.std.proofs.Common.{◌≡◌, ℕ, Bool, Option, ◌+◌, ◌-◌, length, get_or, ◌<◌, ◌≤◌, true, false, List, None, Some, sym, ◌∙◌, ap, subst, arith, ℤ, pos, ◌+ℤ◌}
+use Rattle.std.proofs.Common.{◌≡◌, ℕ, Bool, Option, ◌-◌, length, get_or, true, false, List, sym, ◌∙◌, ap, subst, arith, ℤ, pos, ◌+ℤ◌}
 use Rattle.std.specs.Prelude.{is_some, position}
-use Rattle.tl_definitions.specs.declared.Kind.{Kind}
 use Rattle.tl_definitions.specs.Lattice.{corner, corner_eq}
 use Rattle.tl_definitions.specs.Region.{Region, is_inner, inner_corners}
 use Rattle.tl_definitions.specs.Accepted.{IsPlaced, circuit_corners}

@@ -1,4 +1,4 @@
-use Rattle.std.proofs.Common.{w32, ◌≡◌, ◌⊎◌, inl, inr, ℕ, ◌-◌, ℤ, Bool, true, false, cond, refl, sym, ◌∙◌, ap, subst, arith, pos, negsuc, ◌-ℤ◌, ◌+ℤ◌, neg_ℤ, ◌≤ℤ◌}
+use Rattle.std.proofs.Common.{w32, ◌≡◌, ◌⊎◌, inl, inr, ◌-◌, ℤ, Bool, true, false, cond, refl, sym, ◌∙◌, ap, arith, pos, ◌-ℤ◌, ◌+ℤ◌, neg_ℤ}
 use mir.Val.{to_z, of_z}
 use Rattle.std.proofs.lemmas.Int.{ints}
 use Rattle.tl_definitions.specs.declared.Kind.{Kind}
