@@ -1,5 +1,5 @@
 -- What meets the definitions, and what near them doesn't: the two tilings of the square of four cells.
-use Rattle.std.proofs.Common.{◌≡◌, ℕ, List, [], ◌∷◌, refl, sym, ◌∙◌, ap, subst, arith, codes, Result, Ok, ℤ, pos, negsuc, ◌+ℤ◌}
+use Rattle.std.proofs.Common.{◌≡◌, ℕ, true, false, List, [], ◌∷◌, refl, sym, ◌∙◌, ap, subst, arith, codes, Result, Ok, ℤ, pos, negsuc, ◌+ℤ◌}
 use Rattle.std.specs.Prelude.{slice_index}
 use Rattle.tl_definitions.specs.declared.Kind.TheVariants.{Square}
 use Rattle.tl_definitions.specs.declared.Cell.{Cell}
@@ -20,7 +20,7 @@ use Rattle.tl_closing.proofs.Numbers.{numbers_of, numbers_of-heights}
 use Rattle.tl_closing.proofs.Crossed.{same-heights}
 use Rattle.tl_closing.proofs.Heights.{Start, start-of, heights-lawful}
 use Rattle.tl_height.specs.declared.standing.Standing.TheVariants.{High, Low, No}
-use Rattle.tl_height.specs.HeightFunction.{put_at}
+use Rattle.tl_height.specs.HeightFunction.{falls_between, put_at}
 use Rattle.tl_height.specs.Standing.{standing}
 use Rattle.tl_height.specs.Letters.{IsDrawnFrom}
 
@@ -135,3 +135,11 @@ neither_stands = refl
 
 put_in_the_middle : put_at 1 (pos 7 ∷ pos 8 ∷ []) (pos 0 ∷ pos 1 ∷ pos 2 ∷ pos 3 ∷ []) ≡ pos 0 ∷ pos 7 ∷ pos 8 ∷ pos 3 ∷ []
 put_in_the_middle = refl
+
+-- ---- falls
+
+fall_of_3 : falls_between (negsuc 0) (pos 2) ≡ true
+fall_of_3 = refl
+
+rise_of_1 : falls_between (negsuc 0) (pos 0) ≡ false
+rise_of_1 = refl

@@ -1,7 +1,6 @@
 -- The letter of a cell names the side across which the heights fall.
-use Rattle.std.proofs.Common.{◌≡◌, ℕ, ◌+◌, ◌-◌, ◌⊎◌, inl, inr, Bool, true, false, not, List, [], ◌∷◌, map, cond, Option, Some, None, refl, sym, ◌∙◌, ap, subst, arith, ℤ, pos, negsuc, ◌+ℤ◌, ◌-ℤ◌}
-use Rattle.std.specs.Prelude.{find, option_map, nat_lt, unsigned_abs, IsTrue}
-use Rattle.std.proofs.lemmas.Int.{ints}
+use Rattle.std.proofs.Common.{◌≡◌, ℕ, ◌+◌, ◌⊎◌, inl, inr, Bool, true, false, not, List, [], ◌∷◌, map, cond, Option, Some, None, refl, sym, ◌∙◌, ap, subst, arith, ℤ}
+use Rattle.std.specs.Prelude.{find, option_map, IsTrue}
 use Rattle.std.proofs.lemmas.Bool.{false_from_ne_true}
 use Rattle.tl_definitions.specs.declared.Kind.{Kind}
 use Rattle.tl_definitions.specs.declared.Kind.TheVariants.{Square, Triangle}
@@ -12,7 +11,7 @@ use Rattle.tl_definitions.specs.Lattice.{corner, cell_eq, left, right, above, be
 use Rattle.tl_definitions.specs.Region.{Region, has, is_corner_of}
 use Rattle.tl_definitions.specs.Tiling.{covers, is_tiling, other_cell, partner}
 use Rattle.tl_definitions.specs.Drawing.{letter}
-use Rattle.tl_definitions.specs.Heights.{rise, height, AreHeights}
+use Rattle.tl_definitions.specs.Heights.{height, AreHeights}
 use Rattle.tl_definitions.proofs.Regions.{cell_eq-same}
 use Rattle.tl_definitions.proofs.Sublists.{In, In-map, cell_eq-refl}
 use Rattle.tl_definitions.proofs.Ordered.{Only, find-only}
@@ -25,7 +24,9 @@ use Rattle.tl_closing.proofs.Edges.{Step, has-In, In-has, round-step, is_step-fr
 use Rattle.tl_closing.proofs.Crossed.{TilingParts, tiling-parts, is_crossed, crossed-parts, IsAcross, IsCrossing, one-crossed, covers-cases, covers-from}
 use Rattle.tl_closing.proofs.Standing.{up_sides, down_sides, among-up, among-down}
 use Rattle.tl_height.specs.declared.sides.Ends.{Ends}
-use Rattle.tl_height.specs.Letters.{ends_of, falls_between}
+use Rattle.tl_height.specs.HeightFunction.{falls_between}
+use Rattle.tl_height.specs.Letters.{ends_of}
+use Rattle.tl_height.proofs.FallLemmas.{crossed-falls, level-rests}
 
 -- ---- beyond the crossed step of a cell lies its partner
 
@@ -73,40 +74,6 @@ across R A tiling a i = start (one-crossed R A tiling a i)
 
     start : (e : Step) × IsCrossing R A a e → Across R A a
     start (e, o) = with_step e o (crossed-parts R A e (round-step R.kind a e o.inside) o.crossed)
-
--- ---- a step that a tile crosses falls, by 2 or 3, and one that none crosses rises by 1
-
-abbrev is_far : ℤ → ℤ → Bool
-is_far x y = nat_lt 1 (unsigned_abs (x -ℤ y))
-
-far : (k : Kind) (x y : ℤ) (t : Bool) → y ≡ x +ℤ cond t (negsuc (rise k - 2)) (pos 1) → (is_far x y ≡ t) × (is_far y x ≡ t)
-far Square x y true e = (ap (λ (z : ℤ). nat_lt 1 (unsigned_abs z)) on, ap (λ (z : ℤ). nat_lt 1 (unsigned_abs z)) back)
-  where
-    on : x -ℤ y ≡ pos 3
-    on = omega (arith, ints, e)
-
-    back : y -ℤ x ≡ negsuc 2
-    back = omega (arith, ints, e)
-far Triangle x y true e = (ap (λ (z : ℤ). nat_lt 1 (unsigned_abs z)) on, ap (λ (z : ℤ). nat_lt 1 (unsigned_abs z)) back)
-  where
-    on : x -ℤ y ≡ pos 2
-    on = omega (arith, ints, e)
-
-    back : y -ℤ x ≡ negsuc 1
-    back = omega (arith, ints, e)
-far k x y false e = (ap (λ (z : ℤ). nat_lt 1 (unsigned_abs z)) on, ap (λ (z : ℤ). nat_lt 1 (unsigned_abs z)) back)
-  where
-    on : x -ℤ y ≡ negsuc 0
-    on = omega (arith, ints, e)
-
-    back : y -ℤ x ≡ pos 1
-    back = omega (arith, ints, e)
-
-near-itself : (x : ℤ) → is_far x x ≡ false
-near-itself x = ap (λ (z : ℤ). nat_lt 1 (unsigned_abs z)) none
-  where
-    none : x -ℤ x ≡ pos 0
-    none = omega (arith, ints)
 
 -- ---- the four places of the partner
 
@@ -256,38 +223,42 @@ module _ (falls : Corner → Corner → Bool) (none : (u : Corner) → falls u u
 
 -- ---- the letter of a cell
 
+-- the test by the heights of two corners
+abbrev pub falls_at : Region → List ℤ → Corner → Corner → Bool
+falls_at R numbers u v = falls_between (height R numbers u) (height R numbers v)
+
 -- the letter by the heights of a tiling is that of the partner
 pub letter-partner : (R : Region) (A : List Tile) (numbers : List ℤ) (a : Cell) → IsTrue (is_tiling R A) → AreHeights R A numbers → has R a ≡ true
-    → letter_by (falls_between R numbers) (ends_of R.kind a) ≡ letter a (partner A a)
+    → letter_by (falls_at R numbers) (ends_of R.kind a) ≡ letter a (partner A a)
 letter-partner R A numbers a tiling h e = go (across R A (tiling-parts R A tiling) a a_in)
   where
     a_in : In a R.cells
     a_in = has-In R a e
 
-    go : Across R A a → letter_by (falls_between R numbers) (ends_of R.kind a) ≡ letter a (partner A a)
+    go : Across R A a → letter_by (falls_at R numbers) (ends_of R.kind a) ≡ letter a (partner A a)
     go x =
-        kind-letter (falls_between R numbers) (λ u. near-itself (height R numbers u)) a x.mate x.step R.kind on off centre x.crossing.inside
+        kind-letter (falls_at R numbers) (λ u. level-rests (height R numbers u)) a x.mate x.step R.kind on off centre x.crossing.inside
         ∙ ap (letter a) (sym x.partner_is)
       where
         -- the test of a side, both ways, is whether its step is crossed
         told : (u v : Corner) → In (side a u v) (sides R.kind a)
-            → (falls_between R numbers u v ≡ is_crossed R A (directed (is_dark a) u v)) × (falls_between R numbers v u ≡ is_crossed R A (directed (is_dark a) u v))
+            → (falls_at R numbers u v ≡ is_crossed R A (directed (is_dark a) u v)) × (falls_at R numbers v u ≡ is_crossed R A (directed (is_dark a) u v))
         told u v j = either (is_dark a) (In-map step_along (side a u v) (sides R.kind a) j)
           where
             either : (t : Bool) → In (directed t u v) (steps_round R.kind a)
-                → (falls_between R numbers u v ≡ is_crossed R A (directed t u v)) × (falls_between R numbers v u ≡ is_crossed R A (directed t u v))
-            either true k = far R.kind (height R numbers u) (height R numbers v) (is_crossed R A (u, v)) (h.along u v (is_step-from R a u v a_in k))
+                → (falls_at R numbers u v ≡ is_crossed R A (directed t u v)) × (falls_at R numbers v u ≡ is_crossed R A (directed t u v))
+            either true k = crossed-falls R.kind (height R numbers u) (height R numbers v) (is_crossed R A (u, v)) (h.along u v (is_step-from R a u v a_in k))
             either false k =
-                let p = far R.kind (height R numbers v) (height R numbers u) (is_crossed R A (v, u)) (h.along v u (is_step-from R a v u a_in k)) in
+                let p = crossed-falls R.kind (height R numbers v) (height R numbers u) (is_crossed R A (v, u)) (h.along v u (is_step-from R a v u a_in k)) in
                 (p.1, p.0)
 
-        on : (u v : Corner) → In (side a u v) (sides R.kind a) → x.step ≡ directed (is_dark a) u v → (falls_between R numbers u v ≡ true) × (falls_between R numbers v u ≡ true)
+        on : (u v : Corner) → In (side a u v) (sides R.kind a) → x.step ≡ directed (is_dark a) u v → (falls_at R numbers u v ≡ true) × (falls_at R numbers v u ≡ true)
         on u v j at =
             let p = told u v j in
             let crossed : is_crossed R A (directed (is_dark a) u v) ≡ true = subst (λ (d : Step). is_crossed R A d ≡ true) at x.crossing.crossed in
             (p.0 ∙ crossed, p.1 ∙ crossed)
 
-        off : (u v : Corner) → In (side a u v) (sides R.kind a) → (x.step ≡ directed (is_dark a) u v → ⊥) → (falls_between R numbers u v ≡ false) × (falls_between R numbers v u ≡ false)
+        off : (u v : Corner) → In (side a u v) (sides R.kind a) → (x.step ≡ directed (is_dark a) u v → ⊥) → (falls_at R numbers u v ≡ false) × (falls_at R numbers v u ≡ false)
         off u v j differ =
             let p = told u v j in
             let kept : is_crossed R A (directed (is_dark a) u v) ≡ false =

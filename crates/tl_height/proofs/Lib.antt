@@ -1,5 +1,6 @@
 pub mod HeightPlaces
 pub mod PresentLemmas
+pub mod FallLemmas
 pub mod InnerSteps
 pub mod StandingLemmas
 pub mod LetterLemmas

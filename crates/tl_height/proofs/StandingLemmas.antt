@@ -1,23 +1,48 @@
--- How a tiling stands, by its heights.
-use Rattle.std.proofs.Common.{◌≡◌, true, Bool, List, cond, ◌∙◌, ap, ℤ}
+-- How a tiling stands at an inner corner, by its heights.
+use Rattle.std.proofs.Common.{◌≡◌, true, ◌&&◌, Bool, List, [], ◌∷◌, inl, inr, cond, refl, sym, ◌∙◌, ℤ}
 use Rattle.std.specs.Prelude.{IsTrue}
+use Rattle.std.specs.List.{list_all}
 use Rattle.tl_definitions.specs.declared.Corner.{Corner}
 use Rattle.tl_definitions.specs.declared.Tile.{Tile}
-use Rattle.tl_definitions.specs.Region.{Region, is_inner}
+use Rattle.tl_definitions.specs.Lattice.{steps_out}
+use Rattle.tl_definitions.specs.Region.{Region, present, is_inner}
 use Rattle.tl_definitions.specs.Tiling.{is_tiling}
-use Rattle.tl_definitions.specs.Flip.{stands_low}
 use Rattle.tl_definitions.specs.Heights.{height, AreHeights}
-use Rattle.tl_closing.specs.Standing.{falls_from, falls_to}
-use Rattle.tl_closing.proofs.Standing.{standing-heights}
+use Rattle.tl_definitions.proofs.Sublists.{In}
+use Rattle.tl_closing.specs.Standing.{steps_in}
+use Rattle.tl_closing.proofs.Crossed.{is_crossed}
+use Rattle.tl_closing.proofs.Edges.{is_step-from}
+use Rattle.tl_closing.proofs.Standing.{standing-crossed}
 use Rattle.tl_height.specs.declared.standing.Standing.{Standing}
 use Rattle.tl_height.specs.declared.standing.Standing.TheVariants.{High, Low, No}
-use Rattle.tl_height.specs.Standing.{standing}
+use Rattle.tl_height.specs.HeightFunction.{falls_between}
+use Rattle.tl_height.specs.Standing.{all_fall, standing}
+use Rattle.tl_height.proofs.FallLemmas.{crossed-falls}
+use Rattle.tl_height.proofs.InnerSteps.{IsRound, out-round, in-round}
 
 abbrev pub stands : Bool → Bool → Standing
 stands high low = cond high High (cond low Low No)
 
+-- whether all steps from a corner fall, and all steps to it
+abbrev pub from_falls : Region → List ℤ → Corner → Bool
+from_falls R numbers v = all_fall R numbers v (present (steps_out R.kind v))
+
+abbrev pub to_falls : Region → List ℤ → Corner → Bool
+to_falls R numbers v = all_fall R numbers v (steps_in R.kind v)
+
+same_tests : {A : Type 0} (p q : A → Bool) (xs : List A) → ((x : A) → In x xs → p x ≡ q x) → list_all p xs ≡ list_all q xs
+same_tests p q [] f = refl
+same_tests p q (x ∷ xs) f = λ i. f x (inl refl) i && same_tests p q xs (λ y j. f y (inr j)) i
+
 pub standing-by : (R : Region) (A : List Tile) (numbers : List ℤ) (v : Corner) → IsTrue (is_tiling R A) → AreHeights R A numbers → is_inner R v ≡ true
-    → standing R A v ≡ stands (falls_from R numbers v) (falls_to R numbers v)
+    → standing R A v ≡ stands (from_falls R numbers v) (to_falls R numbers v)
 standing-by R A numbers v tiling h inner =
-    let both = standing-heights R A (height R numbers) v tiling h.along inner in
-    ap (λ (t : Bool). stands t (stands_low R A v)) both.0 ∙ ap (stands (falls_from R numbers v)) both.1
+    let both = standing-crossed R A v tiling inner in
+    λ i. stands ((both.0 ∙ same_tests _ _ (present (steps_out R.kind v)) (λ w j. out w (out-round R v w inner j))) i)
+    ((both.1 ∙ same_tests _ _ (steps_in R.kind v) (λ u j. into u (in-round R v u inner j))) i)
+  where
+    out : (w : Corner) → IsRound R.kind R.cells (v, w) → is_crossed R A (v, w) ≡ falls_between (height R numbers v) (height R numbers w)
+    out w (a, i, j) = sym (crossed-falls R.kind (height R numbers v) (height R numbers w) (is_crossed R A (v, w)) (h.along v w (is_step-from R a v w i j))).0
+
+    into : (u : Corner) → IsRound R.kind R.cells (u, v) → is_crossed R A (u, v) ≡ falls_between (height R numbers v) (height R numbers u)
+    into u (a, i, j) = sym (crossed-falls R.kind (height R numbers u) (height R numbers v) (is_crossed R A (u, v)) (h.along u v (is_step-from R a u v i j))).1

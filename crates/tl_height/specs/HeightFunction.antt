@@ -1,5 +1,5 @@
 -- Height functions as contracts see them.
-use Rattle.std.specs.Prelude.{ℕ, ◌+◌, List, ◌++◌, length, take, drop, ℤ}
+use Rattle.std.specs.Prelude.{ℕ, ◌+◌, Bool, nat_lt, List, ◌++◌, length, take, drop, ℤ, ◌-ℤ◌, unsigned_abs}
 use Rattle.tl_definitions.specs.Region.{Region}
 use Rattle.tl_definitions.specs.Accepted.{Accepted}
 use Rattle.tl_definitions.specs.Heights.{AreLawful}
@@ -15,6 +15,11 @@ pub record IsHeightFunction (R : Region) (numbers : List ℤ) : Type 0 where
   pub kept : IsKept R
   pub accepted : Accepted R
   pub lawful : AreLawful R numbers
+
+-- Whether a step between corners of these heights falls, whichever way it leads. Along a step heights rise by 1, or they
+-- fall by more.
+abbrev pub falls_between : ℤ → ℤ → Bool
+falls_between x y = nat_lt 1 (unsigned_abs (x -ℤ y))
 
 -- the list with these numbers in the place of those from a place on
 abbrev pub put_at : ℕ → List ℤ → List ℤ → List ℤ

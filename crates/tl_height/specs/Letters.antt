@@ -1,16 +1,14 @@
 -- The drawing of the tiling that some heights are those of.
-use Rattle.std.specs.Prelude.{◌≡◌, ℕ, ◌+◌, Bool, nat_lt, if◌then◌else◌, List, [], ◌∷◌, ◌++◌, map, ℤ, ◌-ℤ◌, IsTrue}
-use Rattle.std.specs.Int.RustNames.{unsigned_abs}
+use Rattle.std.specs.Prelude.{◌≡◌, ℕ, ◌+◌, if◌then◌else◌, List, [], ◌∷◌, ◌++◌, map, ℤ, IsTrue}
 use Rattle.tl_definitions.specs.declared.Kind.{Kind}
 use Rattle.tl_definitions.specs.declared.Kind.TheVariants.{Square, Triangle}
 use Rattle.tl_definitions.specs.declared.Cell.{Cell}
-use Rattle.tl_definitions.specs.declared.Corner.{Corner}
 use Rattle.tl_definitions.specs.declared.Tile.{Tile}
 use Rattle.tl_definitions.specs.Lattice.{cell, corner, is_dark}
 use Rattle.tl_definitions.specs.Region.{Region, upto}
 use Rattle.tl_definitions.specs.Tiling.{is_tiling, partner}
 use Rattle.tl_definitions.specs.Drawing.{letter, drawing}
-use Rattle.tl_definitions.specs.Heights.{height, AreHeights}
+use Rattle.tl_definitions.specs.Heights.{AreHeights}
 use Rattle.tl_height.specs.declared.sides.Ends.{Ends}
 
 -- the ends of the left and of the right side of a cell
@@ -36,11 +34,6 @@ ends_of Triangle a =
       lower_left = corner (a.r + 1) (a.c + 1);
       lower_right = corner (a.r + 1) (a.c + 1);
     }
-
--- Whether the heights of two corners differ by more than 1. Along a step between them, whichever way it leads, they
--- then fall.
-abbrev pub falls_between : Region → List ℤ → Corner → Corner → Bool
-falls_between R numbers u v = nat_lt 1 (unsigned_abs (height R numbers u -ℤ height R numbers v))
 
 -- a row of a printed drawing
 abbrev pub row_text : Region → List Tile → ℕ → List ℕ

@@ -1,17 +1,18 @@
 //! The type of height functions.
 
-ghost use Rattle.std.specs.Prelude.{◌≡◌, ◌+◌, ◌*◌, ◌<◌, ◌≤◌, List, length, slice_get, IfOk, IsTrue, Some, int_lt};
+ghost use Rattle.std.specs.Prelude.{◌≡◌, ◌+◌, ◌*◌, ◌<◌, ◌≤◌, List, length, slice_get, IfOk, IsTrue, Some};
 ghost use Rattle.std.specs.List.{list_all};
 ghost use Rattle.tl_definitions.specs.declared.Corner.{Corner};
 ghost use Rattle.tl_definitions.specs.declared.Tile.{Tile};
+ghost use Rattle.tl_definitions.specs.Lattice.{steps_out as steps_from};
 ghost use Rattle.tl_definitions.specs.Region.{is_corner_of, is_inner, inner_corners, present};
 ghost use Rattle.tl_definitions.specs.Tiling.{is_tiling, partner};
 ghost use Rattle.tl_definitions.specs.Drawing.{letter};
 ghost use Rattle.tl_definitions.specs.Heights.{height, AreHeights, AreLawful};
-ghost use Rattle.tl_closing.specs.Standing.{falls_from, falls_to};
-ghost use Rattle.tl_height.specs.HeightFunction.{put_at};
-ghost use Rattle.tl_height.specs.Letters.{IsDrawnFrom, falls_between, row_text};
-ghost use Rattle.tl_height.specs.Standing.{AreCornersOf, standing};
+ghost use Rattle.tl_closing.specs.Standing.{steps_in as steps_to};
+ghost use Rattle.tl_height.specs.HeightFunction.{falls_between, put_at};
+ghost use Rattle.tl_height.specs.Letters.{IsDrawnFrom, row_text};
+ghost use Rattle.tl_height.specs.Standing.{AreCornersOf, all_fall, standing};
 
 use crate::sides::side_ends;
 use crate::standing::{Standing, steps_in};
@@ -124,50 +125,34 @@ impl<'a> Heights<'a> {
         }
     }
 
-    // Whether the heights fall along every step from an inner corner.
+    // Whether every step from an inner corner falls.
     fn falls_from(&self, corner: Corner) -> bool
         requires { IsTrue (is_inner self.now.region corner) }
-        ensures { result ≡ falls_from self.now.region self.now.numbers corner }
+        ensures { result ≡ all_fall self.now.region self.now.numbers corner (present (steps_from self.now.region.kind corner)) }
     {
         let steps = steps_out(self.region.kind(), corner);
-        self.are_below(&steps.corners, self.at(corner))
+        self.all_fall(self.at(corner), &steps.corners)
     }
 
-    // Whether the heights fall along every step to an inner corner.
+    // Whether every step to an inner corner falls.
     fn falls_to(&self, corner: Corner) -> bool
         requires { IsTrue (is_inner self.now.region corner) }
-        ensures { result ≡ falls_to self.now.region self.now.numbers corner }
+        ensures { result ≡ all_fall self.now.region self.now.numbers corner (steps_to self.now.region.kind corner) }
     {
         let corners = steps_in(self.region.kind(), corner);
-        self.are_above(&corners, self.at(corner))
+        self.all_fall(self.at(corner), &corners)
     }
 
-    // Whether the height of each of these corners is below a number.
-    fn are_below(&self, corners: &[Option<Corner>], number: i32) -> bool
+    // Whether every step between a corner of this height and one of these corners falls.
+    fn all_fall(&self, here: i32, corners: &[Option<Corner>]) -> bool
         requires { AreCornersOf self.now.region corners.now }
-        ensures { result ≡ list_all (λ v. int_lt (height self.now.region self.now.numbers v) number) (present corners.now) }
+        ensures { result ≡ list_all (λ v. falls_between here (height self.now.region self.now.numbers v)) (present corners.now) }
     {
         for corner in corners {
             let Some(corner) = *corner else {
                 continue;
             };
-            if self.at(corner) >= number {
-                return false;
-            }
-        }
-        true
-    }
-
-    // Whether the height of each of these corners is above a number.
-    fn are_above(&self, corners: &[Option<Corner>], number: i32) -> bool
-        requires { AreCornersOf self.now.region corners.now }
-        ensures { result ≡ list_all (λ v. int_lt number (height self.now.region self.now.numbers v)) (present corners.now) }
-    {
-        for corner in corners {
-            let Some(corner) = *corner else {
-                continue;
-            };
-            if self.at(corner) <= number {
+            if !falls_between(here, self.at(corner)) {
                 return false;
             }
         }
@@ -201,7 +186,7 @@ impl<'a> Heights<'a> {
         line[columns as usize] = b'\n';
     }
 
-    // The letter at a place: for a cell, that of the side across which the heights differ by more than 1.
+    // The letter at a place: for a cell, that of the side along which the heights fall.
     fn letter(&self, cell: Cell) -> u8
         ensures { (A : List Tile) → IsTrue (is_tiling self.now.region A) → AreHeights self.now.region A self.now.numbers
             → result ≡ letter cell (partner A cell) }
@@ -210,23 +195,25 @@ impl<'a> Heights<'a> {
             return b'.';
         }
         let ends = side_ends(self.region.kind(), cell);
-        if self.falls_between(ends.upper_right, ends.lower_right) {
+        let upper_left = self.at(ends.upper_left);
+        let upper_right = self.at(ends.upper_right);
+        let lower_left = self.at(ends.lower_left);
+        let lower_right = self.at(ends.lower_right);
+        if falls_between(upper_right, lower_right) {
             b'>'
-        } else if self.falls_between(ends.upper_left, ends.lower_left) {
+        } else if falls_between(upper_left, lower_left) {
             b'<'
-        } else if self.falls_between(ends.lower_left, ends.lower_right) {
+        } else if falls_between(lower_left, lower_right) {
             b'v'
         } else {
             b'^'
         }
     }
+}
 
-    // Whether the heights of two corners of the region differ by more than 1.
-    fn falls_between(&self, first: Corner, second: Corner) -> bool
-        requires first { IsTrue (is_corner_of self.now.region first) }
-        requires second { IsTrue (is_corner_of self.now.region second) }
-        ensures { result ≡ falls_between self.now.region self.now.numbers first second }
-    {
-        self.at(first).abs_diff(self.at(second)) > 1
-    }
+// Whether a step between corners of these heights falls. Along a step the heights rise by 1, or they fall by more.
+fn falls_between(first: i32, second: i32) -> bool
+    ensures { result ≡ falls_between first second }
+{
+    first.abs_diff(second) > 1
 }

@@ -31,6 +31,6 @@ at-requires c =
     let k = (goal.at.at-requires c).After-kind in
     subst (λ (R : Region). is_corner_of R c.args.corner ≡ true) (shape k) (inside k).of_region
 
-pub are_below-requires : goal.are_below-requires
-are_below-requires c =
-    outs-of_region c.args.self.now.region c.args.corner c.steps_out-steps.result.corners c.requires (table (goal.at.are_below-requires c).After-steps_out-steps)
+pub all_fall-requires : goal.all_fall-requires
+all_fall-requires c =
+    outs-of_region c.args.self.now.region c.args.corner c.steps_out-steps.result.corners c.requires (table (goal.at.all_fall-requires c).After-steps_out-steps)

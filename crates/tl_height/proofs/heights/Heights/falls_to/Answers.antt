@@ -31,7 +31,6 @@ at-requires c =
     let k = (goal.at.at-requires c).After-kind in
     subst (λ (R : Region). is_corner_of R c.args.corner ≡ true) (shape k) (inside k).of_region
 
-pub are_above-requires : goal.are_above-requires
-are_above-requires c =
-    let k = (goal.at.are_above-requires c).After-kind in
-    ins-of_region c.args.self.now.region c.args.corner c.steps_in-corners.result (subst (λ (R : Region). IsInside R c.args.corner) (shape k) (inside k)) c.requires (table (goal.at.are_above-requires c).After-steps_in-corners)
+pub all_fall-requires : goal.all_fall-requires
+all_fall-requires c =
+    ins-of_region c.args.self.now.region c.args.corner c.steps_in-corners.result c.requires (table (goal.at.all_fall-requires c).After-steps_in-corners)

@@ -1,4 +1,5 @@
-use Rattle.std.proofs.Common.{◌≡◌, ◌<◌, true, false, Bool, List, sym, ◌∙◌, ap, subst, arith, refl}
+use Rattle.std.proofs.Common.{◌≡◌, ◌<◌, true, false, Bool, List, sym, ◌∙◌, ap, subst, arith, refl, w32, rules, to_z, of_z}
+use mir.Val.{SFits}
 use Rattle.std.specs.Prelude.{IsTrue}
 use Rattle.tl_definitions.specs.declared.Kind.{Kind}
 use Rattle.tl_definitions.specs.declared.Tile.{Tile}
@@ -8,11 +9,12 @@ use Rattle.tl_definitions.specs.Drawing.{letter}
 use Rattle.tl_definitions.specs.Heights.{AreHeights}
 use Rattle.tl_definitions.proofs.Regions.{has-within}
 use Rattle.tl_height.specs.declared.sides.Ends.{Ends}
-use Rattle.tl_height.specs.HeightFunction.{HeightFunction}
-use Rattle.tl_height.specs.Letters.{ends_of, falls_between}
-use Rattle.tl_height.proofs.LetterLemmas.{tested, letter_by, letter-partner, letter-outside, AreCorners, ends-of_region}
+use Rattle.tl_height.specs.HeightFunction.{HeightFunction, falls_between}
+use Rattle.tl_height.specs.Letters.{ends_of}
+use Rattle.tl_height.proofs.FallLemmas.{both-passed}
+use Rattle.tl_height.proofs.LetterLemmas.{tested, letter_by, falls_at, letter-partner, letter-outside, AreCorners, ends-of_region}
 use Rattle.tl_height.proofs.heights.Heights.letter.Goals as goal
-use Rattle.tl_height.proofs.heights.Heights.letter.Goals.{After-kind, After-side_ends-ends}
+use Rattle.tl_height.proofs.heights.Heights.letter.Goals.{After-kind, After-side_ends-ends, After-at-lower_right}
 
 pub returns-then-not-has : goal.returns-then-not-has
 returns-then-not-has c A tiling h =
@@ -43,13 +45,13 @@ corners c = subst (AreCorners c.args.self.now.region) (sym (table c)) (ends-of_r
 
 -- the three tests
 abbrev right_falls : After-side_ends-ends → Bool
-right_falls c = falls_between c.args.self.now.region c.args.self.now.numbers c.side_ends-ends.result.upper_right c.side_ends-ends.result.lower_right
+right_falls c = falls_at c.args.self.now.region c.args.self.now.numbers c.side_ends-ends.result.upper_right c.side_ends-ends.result.lower_right
 
 abbrev left_falls : After-side_ends-ends → Bool
-left_falls c = falls_between c.args.self.now.region c.args.self.now.numbers c.side_ends-ends.result.upper_left c.side_ends-ends.result.lower_left
+left_falls c = falls_at c.args.self.now.region c.args.self.now.numbers c.side_ends-ends.result.upper_left c.side_ends-ends.result.lower_left
 
 abbrev lower_falls : After-side_ends-ends → Bool
-lower_falls c = falls_between c.args.self.now.region c.args.self.now.numbers c.side_ends-ends.result.lower_left c.side_ends-ends.result.lower_right
+lower_falls c = falls_at c.args.self.now.region c.args.self.now.numbers c.side_ends-ends.result.lower_left c.side_ends-ends.result.lower_right
 
 -- whatever they say
 answer : (c : After-side_ends-ends) (on_right on_left on_lower : Bool) → on_right ≡ right_falls c → on_left ≡ left_falls c → on_lower ≡ lower_falls c
@@ -57,48 +59,68 @@ answer : (c : After-side_ends-ends) (on_right on_left on_lower : Bool) → on_ri
     → tested on_right on_left on_lower ≡ letter c.args.cell (partner A c.args.cell)
 answer c on_right on_left on_lower p l d A tiling h =
     (λ i. tested (p i) (l i) (d i))
-    ∙ (ap (λ (e : Ends). letter_by (falls_between c.args.self.now.region c.args.self.now.numbers) e) (table c)
+    ∙ (ap (λ (e : Ends). letter_by (falls_at c.args.self.now.region c.args.self.now.numbers) e) (table c)
     ∙ letter-partner c.args.self.now.region A c.args.self.now.numbers c.args.cell tiling h (here c))
 
-pub falls_between-requires-clause-first : goal.falls_between-requires-clause-first
-falls_between-requires-clause-first c = (corners (goal.at.falls_between-requires-clause-first c).After-side_ends-ends).upper_right
+pub at-upper_left-requires : goal.at-upper_left-requires
+at-upper_left-requires c = (corners (goal.at.at-upper_left-requires c).After-side_ends-ends).upper_left
 
-pub falls_between-requires-clause-second : goal.falls_between-requires-clause-second
-falls_between-requires-clause-second c = (corners (goal.at.falls_between-requires-clause-second c).After-side_ends-ends).lower_right
+pub at-upper_right-requires : goal.at-upper_right-requires
+at-upper_right-requires c = (corners (goal.at.at-upper_right-requires c).After-side_ends-ends).upper_right
 
-pub falls_between-requires-else-falls_between-clause-first : goal.falls_between-requires-else-falls_between-clause-first
-falls_between-requires-else-falls_between-clause-first c = (corners (goal.at.falls_between-requires-else-falls_between-clause-first c).After-side_ends-ends).upper_left
+pub at-lower_left-requires : goal.at-lower_left-requires
+at-lower_left-requires c = (corners (goal.at.at-lower_left-requires c).After-side_ends-ends).lower_left
 
-pub falls_between-requires-else-falls_between-clause-second : goal.falls_between-requires-else-falls_between-clause-second
-falls_between-requires-else-falls_between-clause-second c = (corners (goal.at.falls_between-requires-else-falls_between-clause-second c).After-side_ends-ends).lower_left
+pub at-lower_right-requires : goal.at-lower_right-requires
+at-lower_right-requires c = (corners (goal.at.at-lower_right-requires c).After-side_ends-ends).lower_right
 
-pub falls_between-requires-else-falls_between-2-clause-first : goal.falls_between-requires-else-falls_between-2-clause-first
-falls_between-requires-else-falls_between-2-clause-first c = (corners (goal.at.falls_between-requires-else-falls_between-2-clause-first c).After-side_ends-ends).lower_left
+-- what the calls test
+right_told : (c : After-at-lower_right) → falls_between (to_z w32 (of_z w32 c.at-upper_right.result)) (to_z w32 (of_z w32 c.at-lower_right.result))
+    ≡ falls_at c.args.self.now.region c.args.self.now.numbers c.side_ends-ends.result.upper_right c.side_ends-ends.result.lower_right
+right_told c =
+    let fits : SFits w32 c.at-upper_right.result = search rules in
+    let fits' : SFits w32 c.at-lower_right.result = search rules in
+    both-passed _ _ c.at-upper_right.result c.at-lower_right.result fits fits' c.at-upper_right.ensures c.at-lower_right.ensures
 
-pub falls_between-requires-else-falls_between-2-clause-second : goal.falls_between-requires-else-falls_between-2-clause-second
-falls_between-requires-else-falls_between-2-clause-second c = (corners (goal.at.falls_between-requires-else-falls_between-2-clause-second c).After-side_ends-ends).lower_right
+left_told : (c : After-at-lower_right) → falls_between (to_z w32 (of_z w32 c.at-upper_left.result)) (to_z w32 (of_z w32 c.at-lower_left.result))
+    ≡ falls_at c.args.self.now.region c.args.self.now.numbers c.side_ends-ends.result.upper_left c.side_ends-ends.result.lower_left
+left_told c =
+    let fits : SFits w32 c.at-upper_left.result = search rules in
+    let fits' : SFits w32 c.at-lower_left.result = search rules in
+    both-passed _ _ c.at-upper_left.result c.at-lower_left.result fits fits' c.at-upper_left.ensures c.at-lower_left.ensures
+
+lower_told : (c : After-at-lower_right) → falls_between (to_z w32 (of_z w32 c.at-lower_left.result)) (to_z w32 (of_z w32 c.at-lower_right.result))
+    ≡ falls_at c.args.self.now.region c.args.self.now.numbers c.side_ends-ends.result.lower_left c.side_ends-ends.result.lower_right
+lower_told c =
+    let fits : SFits w32 c.at-lower_left.result = search rules in
+    let fits' : SFits w32 c.at-lower_right.result = search rules in
+    both-passed _ _ c.at-lower_left.result c.at-lower_right.result fits fits' c.at-lower_left.ensures c.at-lower_right.ensures
 
 pub returns-then-falls_between : goal.returns-then-falls_between
 returns-then-falls_between c =
     let s = (goal.at.returns-then-falls_between c).After-side_ends-ends in
-    answer s true (left_falls s) (lower_falls s) (sym c.if-falls_between.true ∙ c.falls_between.ensures) refl refl
+    let t = (goal.at.returns-then-falls_between c).After-at-lower_right in
+    answer s true (left_falls s) (lower_falls s) (sym c.if-falls_between.true ∙ c.falls_between.ensures ∙ right_told t) refl refl
 
 pub returns-then-falls_between-2 : goal.returns-then-falls_between-2
 returns-then-falls_between-2 c =
     let s = (goal.at.returns-then-falls_between-2 c).After-side_ends-ends in
-    answer s false true (lower_falls s) (sym c.if-falls_between.false ∙ c.falls_between.ensures)
-    (sym c.if-falls_between-2.true ∙ c.falls_between-else-falls_between.ensures) refl
+    let t = (goal.at.returns-then-falls_between-2 c).After-at-lower_right in
+    answer s false true (lower_falls s) (sym c.if-falls_between.false ∙ c.falls_between.ensures ∙ right_told t)
+    (sym c.if-falls_between-2.true ∙ c.falls_between-else-falls_between.ensures ∙ left_told t) refl
 
 pub returns-then-falls_between-3 : goal.returns-then-falls_between-3
 returns-then-falls_between-3 c =
     let s = (goal.at.returns-then-falls_between-3 c).After-side_ends-ends in
-    answer s false false true (sym c.if-falls_between.false ∙ c.falls_between.ensures)
-    (sym c.if-falls_between-2.false ∙ c.falls_between-else-falls_between.ensures)
-    (sym c.if-falls_between-3.true ∙ c.falls_between-else-falls_between-2.ensures)
+    let t = (goal.at.returns-then-falls_between-3 c).After-at-lower_right in
+    answer s false false true (sym c.if-falls_between.false ∙ c.falls_between.ensures ∙ right_told t)
+    (sym c.if-falls_between-2.false ∙ c.falls_between-else-falls_between.ensures ∙ left_told t)
+    (sym c.if-falls_between-3.true ∙ c.falls_between-else-falls_between-2.ensures ∙ lower_told t)
 
 pub returns-else-falls_between-3 : goal.returns-else-falls_between-3
 returns-else-falls_between-3 c =
     let s = (goal.at.returns-else-falls_between-3 c).After-side_ends-ends in
-    answer s false false false (sym c.if-falls_between.false ∙ c.falls_between.ensures)
-    (sym c.if-falls_between-2.false ∙ c.falls_between-else-falls_between.ensures)
-    (sym c.if-falls_between-3.false ∙ c.falls_between-else-falls_between-2.ensures)
+    let t = (goal.at.returns-else-falls_between-3 c).After-at-lower_right in
+    answer s false false false (sym c.if-falls_between.false ∙ c.falls_between.ensures ∙ right_told t)
+    (sym c.if-falls_between-2.false ∙ c.falls_between-else-falls_between.ensures ∙ left_told t)
+    (sym c.if-falls_between-3.false ∙ c.falls_between-else-falls_between-2.ensures ∙ lower_told t)

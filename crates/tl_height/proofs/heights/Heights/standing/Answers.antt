@@ -6,10 +6,9 @@ use Rattle.tl_definitions.specs.Region.{is_inner, inner_corners}
 use Rattle.tl_definitions.specs.Tiling.{is_tiling}
 use Rattle.tl_definitions.specs.Heights.{AreHeights}
 use Rattle.tl_definitions.proofs.InnerNumbers.{inner-at}
-use Rattle.tl_closing.specs.Standing.{falls_from, falls_to}
 use Rattle.tl_height.specs.HeightFunction.{HeightFunction}
 use Rattle.tl_height.specs.Standing.{standing}
-use Rattle.tl_height.proofs.StandingLemmas.{stands, standing-by}
+use Rattle.tl_height.proofs.StandingLemmas.{stands, from_falls, to_falls, standing-by}
 use Rattle.tl_height.proofs.heights.Heights.standing.Goals as goal
 use Rattle.tl_height.proofs.heights.Heights.standing.Goals.{After-inner-corner}
 
@@ -20,14 +19,14 @@ inner : (c : After-inner-corner) → is_inner c.args.self.now.region c.inner-cor
 inner c = inner-at c.args.self.now.region c.inner-corner.result c.args.i (here c)
 
 -- whatever the two tests say
-answer : (c : After-inner-corner) (high low : Bool) → high ≡ falls_from c.args.self.now.region c.args.self.now.numbers c.inner-corner.result
-    → low ≡ falls_to c.args.self.now.region c.args.self.now.numbers c.inner-corner.result
+answer : (c : After-inner-corner) (high low : Bool) → high ≡ from_falls c.args.self.now.region c.args.self.now.numbers c.inner-corner.result
+    → low ≡ to_falls c.args.self.now.region c.args.self.now.numbers c.inner-corner.result
     → (A : List Tile) (v : Corner) → IsTrue (is_tiling c.args.self.now.region A) → AreHeights c.args.self.now.region A c.args.self.now.numbers
     → slice_get (inner_corners c.args.self.now.region) c.args.i ≡ Some v → stands high low ≡ standing c.args.self.now.region A v
 answer c high low h l A v tiling heights at =
     let same : c.inner-corner.result ≡ v = cc (here c, at) in
     ap (λ (t : Bool). stands t low) h
-    ∙ (ap (stands (falls_from c.args.self.now.region c.args.self.now.numbers c.inner-corner.result)) l
+    ∙ (ap (stands (from_falls c.args.self.now.region c.args.self.now.numbers c.inner-corner.result)) l
     ∙ (sym (standing-by c.args.self.now.region A c.args.self.now.numbers c.inner-corner.result tiling heights (inner c)) ∙ ap (standing c.args.self.now.region A) same))
 
 pub falls_from-requires : goal.falls_from-requires
@@ -38,7 +37,7 @@ falls_to-requires c = inner (goal.at.falls_to-requires c).After-inner-corner
 
 pub returns-then-falls_from : goal.returns-then-falls_from
 returns-then-falls_from c =
-    answer (goal.at.returns-then-falls_from c).After-inner-corner true (falls_to c.args.self.now.region c.args.self.now.numbers c.inner-corner.result)
+    answer (goal.at.returns-then-falls_from c).After-inner-corner true (to_falls c.args.self.now.region c.args.self.now.numbers c.inner-corner.result)
     (sym c.if-falls_from.true ∙ c.falls_from.ensures) refl
 
 pub returns-then-falls_to : goal.returns-then-falls_to
