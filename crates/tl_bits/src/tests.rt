@@ -101,11 +101,18 @@ fn a_list_gives_its_words_and_then_0(rt: HostRuntime) -> Result<(), Fail> {
     Ok(())
 }
 
-fn goes_to_a_thread<B: Bits + Send>(_bits: B) {}
+// Only what may go to a thread can be moved by this.
+fn moved<B: Bits + Send>(bits: B) -> B
+    ensures { result ≡ bits }
+{
+    bits
+}
 
-// These have no words to a time, as for a region with no inner corner, and are never asked.
 #[test]
-fn sources_with_no_words_go_to_a_thread(rt: HostRuntime) {
-    goes_to_a_thread(Numbered::new(5, 6, 0));
-    goes_to_a_thread(Listed::new(0, Vec::new(rt.alloc())));
+fn sources_may_go_to_a_thread(rt: HostRuntime) -> Result<(), Fail> {
+    let mut numbered = moved(Numbered::new(0, 0, 1));
+    assert_eq!(rt; numbered.word(1, 0), 0xade0b876);
+    let mut listed = moved(Listed::new(1, vec![in rt.alloc(); 7]?));
+    assert_eq!(rt; listed.word(1, 0), 7);
+    Ok(())
 }
