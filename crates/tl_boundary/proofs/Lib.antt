@@ -1,3 +1,4 @@
 mod Prefixes
 mod KeptLemmas
 mod RoundLemmas
+mod OneCircuit

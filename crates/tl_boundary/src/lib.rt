@@ -23,7 +23,8 @@ use tl_region::Region;
 
 /// The boundary circuit of the region, in time linear in its rows times its columns.
 pub fn circuit(alloc: Global, region: &Region) -> Result<Circuit, AllocError>
-    ensures { IfOk result (IsCircuit region.now) }
+    ensures circuit { IfOk result (IsCircuit region.now) }
+    ensures only { IfOk result (λ circuit. (other : List Side) → IsCircuit region.now other → other ≡ circuit) }
 {
     let mut walk = Walk::new(alloc, region)?;
     if let Some(start) = region.first_boundary_corner() {

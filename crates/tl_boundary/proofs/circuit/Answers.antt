@@ -4,6 +4,7 @@ use Rattle.tl_definitions.proofs.NextCorner.{find-In}
 use Rattle.tl_definitions.specs.Region.{corner_places}
 use Rattle.tl_definitions.specs.Boundary.{is_boundary_corner}
 use Rattle.tl_boundary.proofs.RoundLemmas.{GoesRound, round-some, round-none}
+use Rattle.tl_boundary.proofs.OneCircuit.{one_circuit}
 use Rattle.tl_boundary.proofs.circuit.Goals as goal
 use Rattle.tl_boundary.proofs.circuit.Goals.{in-Some+in_ok-go_round, in_default}
 
@@ -23,5 +24,9 @@ round c =
 pub of-requires : goal.of-requires
 of-requires c = (c.args.region.now, c.in_ok-walk.ensures.kept, (round c).circuit, (round c).keeps)
 
-pub returns : goal.returns
-returns c = subst (IsCircuit c.args.region.now) (sym c.of.ensures) (round c.before).circuit
+pub returns-clause-only : goal.returns-clause-only
+returns-clause-only c other d =
+    one_circuit c.args.region.now c.of.result other c.in_ok-walk.ensures.accepted (subst (IsCircuit c.args.region.now) (sym c.of.ensures) (round c.before).circuit) d
+
+pub returns-clause-circuit : goal.returns-clause-circuit
+returns-clause-circuit c = subst (IsCircuit c.args.region.now) (sym c.of.ensures) (round c.before).circuit
