@@ -7,3 +7,5 @@ pub mod LetterLemmas
 pub mod RowLemmas
 mod FillLemmas
 pub mod Examples
+pub mod HeightsBy
+mod LozengeExamples
