@@ -1,6 +1,9 @@
 //! Domino tilings of square-lattice regions and lozenge tilings of triangular-lattice regions.
 #![tactic(auto)]
 
+ghost use Rattle.std.specs.Prelude.{◌≡◌, map, IfOk};
+ghost use Rattle.std.specs.String.{string_bytes};
+
 mod check;
 mod refusals;
 mod reply;
@@ -34,7 +37,9 @@ fn command_line<R: Env + Alloc<A = Global>>(rt: &R) -> Result<Vec<String>, Alloc
 }
 
 // The words, borrowed.
-fn borrowed(alloc: Global, words: &[String]) -> Result<Vec<&str>, AllocError> {
+fn borrowed(alloc: Global, words: &[String]) -> Result<Vec<&str>, AllocError>
+    ensures { IfOk result (λ all. map (λ w. w.now) all.items ≡ map string_bytes words.now) }
+{
     let mut all = Vec::with_capacity(alloc, words.len())?;
     for word in words {
         all.push(word.as_str())?;
