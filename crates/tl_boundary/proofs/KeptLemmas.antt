@@ -16,7 +16,7 @@ use Rattle.tl_definitions.specs.Accepted.{circuit_corners, IsCircuit}
 use Rattle.tl_definitions.specs.Obstruction.{sign, prefix}
 use Rattle.tl_definitions.proofs.Regions.{same_test, nat_cases}
 use Rattle.tl_definitions.proofs.CornerRings.{corner_eq-same, corner_eq-refl}
-use Rattle.tl_definitions.proofs.Gaps.{corner-same}
+use Rattle.tl_definitions.proofs.Darts.{corner-same}
 use Rattle.tl_definitions.proofs.InnerNumbers.{position-within, position-some, position-missing, position-other, position-here}
 use Rattle.tl_definitions.proofs.Walks.{map-push, corner-In, In-map_parts}
 use Rattle.tl_definitions.proofs.Sublists.{In}

@@ -22,7 +22,7 @@ use Rattle.tl_definitions.specs.Lattice.{cell, corner, cell_eq, corner_eq, is_ce
 use Rattle.tl_definitions.specs.Region.{Region, has, places, upto, is_inner, is_corner_of}
 use Rattle.tl_definitions.specs.Accepted.{Accepted, IsCircuit, IsPlaced, circuit_corners, cell_count}
 use Rattle.tl_definitions.specs.Tiling.{covers, is_tiling, other_cell, partner}
-use Rattle.tl_definitions.specs.Gaps.{cell_width}
+use Rattle.tl_definitions.specs.Darts.{cell_width}
 use Rattle.tl_definitions.specs.Obstruction.{prefix}
 use Rattle.tl_definitions.specs.Heights.{rise, height, height_count, AreHeights, AreHeightsOf}
 use Rattle.tl_definitions.proofs.Regions.{cell_eq-same, same_test}

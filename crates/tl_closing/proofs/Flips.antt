@@ -25,10 +25,10 @@ use Rattle.tl_closing.proofs.Centres.{step-one, cell-two}
 use Rattle.tl_closing.proofs.Edges.{Step, round-step, step-joins, is_step-from}
 use Rattle.tl_closing.proofs.Crossed.{TileParts, TilingParts, tiling-parts, is_crossed, edge-round, round-edge}
 use Rattle.tl_closing.proofs.Ring.{inner-ring}
-use Rattle.tl_closing.proofs.Standing.{Claims, claims, gap-out, gap-in, pair_is, tile_eq-same, crossed-told}
+use Rattle.tl_closing.proofs.Standing.{Claims, claims, dart-out, dart-in, pair_is, tile_eq-same, crossed-told}
 use Rattle.tl_closing.proofs.OffBoundary.{step-out}
 use Rattle.tl_closing.proofs.Changed.{step-ends}
-use Rattle.tl_closing.proofs.RingTiles.{gap-step-out, gap-step-in, colours-differ, not-all, hi-covers, lo-covers}
+use Rattle.tl_closing.proofs.RingTiles.{dart-step-out, dart-step-in, colours-differ, not-all, hi-covers, lo-covers}
 use Rattle.tl_closing.proofs.Exchange.{exchanged}
 
 -- ---- the tiles of hi and lo have their steps at the corner
@@ -91,8 +91,8 @@ module _ (R : Region) (A : List Tile) (tiling : TilingParts R A) (v : Corner) (i
       → Claims R.cells (λ s. not (tile_eq t s)) (λ u w. not (has_edge R.kind t.first u w && has_edge R.kind t.second u w)) v R.kind
   at-claims t p =
       claims R.cells (λ s. not (tile_eq t s)) (λ u w. not (has_edge R.kind t.first u w && has_edge R.kind t.second u w)) v R.kind
-      (λ w x y g e f. let q = gap-step-out R v w x y g e f in ap not (tile-edge R A tiling t p x y (v, w) (colours-differ x y e f) q.0 q.1))
-      (λ w x y g e f. let q = gap-step-in R v w x y g e f in ap not (tile-edge R A tiling t p x y (w, v) (λ same. colours-differ y x f e (sym same)) q.0 q.1))
+      (λ w x y g e f. let q = dart-step-out R v w x y g e f in ap not (tile-edge R A tiling t p x y (v, w) (colours-differ x y e f) q.0 q.1))
+      (λ w x y g e f. let q = dart-step-in R v w x y g e f in ap not (tile-edge R A tiling t p x y (w, v) (λ same. colours-differ y x f e (sym same)) q.0 q.1))
       (and_parts _ _ inner).0 (inner-ring R v inner)
 
   none-same : (t : Tile) (ts : List Tile) → In t ts → list_all (λ s. not (tile_eq t s)) ts ≡ true → ⊥
@@ -159,12 +159,12 @@ module _ (R : Region) (A B : List Tile) (numbers others : List ℤ) (v : Corner)
   new-high out into =
       (claims R.cells (is_in B) (λ u w. corner_eq u v) v R.kind
       (λ w x y g e f.
-      let q = gap-step-out R v w x y g e f in
-      gap-out R B parts_b v w x y g e f ∙ (out w (is_step-from R x v w g.inside q.0) ∙ sym (corner_eq-refl v)))
+      let q = dart-step-out R v w x y g e f in
+      dart-out R B parts_b v w x y g e f ∙ (out w (is_step-from R x v w g.inside q.0) ∙ sym (corner_eq-refl v)))
       (λ w x y g e f.
-      let q = gap-step-in R v w x y g e f in
+      let q = dart-step-in R v w x y g e f in
       let step : IsTrue (is_step R w v) = is_step-from R x w v g.inside q.0 in
-      gap-in R B parts_b v w x y g e f ∙ (into w step ∙ sym (apart w v step)))
+      dart-in R B parts_b v w x y g e f ∙ (into w step ∙ sym (apart w v step)))
       (and_parts _ _ inner).0 (inner-ring R v inner)).0
       ∙ all-yes (corner_eq v v) (present (steps_out R.kind v)) (corner_eq-refl v)
 
@@ -173,12 +173,12 @@ module _ (R : Region) (A B : List Tile) (numbers others : List ℤ) (v : Corner)
   new-low out into =
       (claims R.cells (is_in B) (λ u w. corner_eq w v) v R.kind
       (λ w x y g e f.
-      let q = gap-step-out R v w x y g e f in
+      let q = dart-step-out R v w x y g e f in
       let step : IsTrue (is_step R v w) = is_step-from R x v w g.inside q.0 in
-      gap-out R B parts_b v w x y g e f ∙ (out w step ∙ sym (apart-back v w step)))
+      dart-out R B parts_b v w x y g e f ∙ (out w step ∙ sym (apart-back v w step)))
       (λ w x y g e f.
-      let q = gap-step-in R v w x y g e f in
-      gap-in R B parts_b v w x y g e f ∙ (into w (is_step-from R x w v g.inside q.0) ∙ sym (corner_eq-refl v)))
+      let q = dart-step-in R v w x y g e f in
+      dart-in R B parts_b v w x y g e f ∙ (into w (is_step-from R x w v g.inside q.0) ∙ sym (corner_eq-refl v)))
       (and_parts _ _ inner).0 (inner-ring R v inner)).1
       ∙ all-yes (corner_eq v v) (steps_in R.kind v) (corner_eq-refl v)
 

@@ -24,7 +24,7 @@ use Rattle.tl_closing.proofs.Crossed.{covers-cases, covers-from, edge-round, rou
 use Rattle.tl_closing.proofs.OffBoundary.{move-in}
 use Rattle.tl_closing.proofs.Edges.{Step, round-step}
 use Rattle.tl_closing.proofs.Ring.{inner-ring}
-use Rattle.tl_closing.proofs.Standing.{IsGap, claims, Claims}
+use Rattle.tl_closing.proofs.Standing.{IsDart, claims, Claims}
 
 -- the steps round a cell are a cycle: one begins at each corner of the cell, and one ends there
 abbrev Begins : Corner → List Step → Type 0
@@ -97,14 +97,14 @@ not-all {A} p (x ∷ xs) no_all = go (p x) refl (λ h. not-all p xs h)
     go true e ih = (x, inl refl, e)
     go false e ih = let (y, i, h) = ih (λ all. no_all (and_from _ _ (ap not e) all)) in (y, inr i, h)
 
-pub gap-step-out : (R : Region) (v w : Corner) (a b : Cell) → IsGap R.cells R.kind v w a b → is_dark a ≡ true → is_dark b ≡ false → In (v, w) (steps_round R.kind a) × In (v, w) (steps_round R.kind b)
-gap-step-out R v w a b g e f = (
+pub dart-step-out : (R : Region) (v w : Corner) (a b : Cell) → IsDart R.cells R.kind v w a b → is_dark a ≡ true → is_dark b ≡ false → In (v, w) (steps_round R.kind a) × In (v, w) (steps_round R.kind b)
+dart-step-out R v w a b g e f = (
   subst (λ (t : Bool). In (directed t v w) (steps_round R.kind a)) e (In-map step_along (side a v w) (sides R.kind a) g.first),
   subst (λ (t : Bool). In (directed t w v) (steps_round R.kind b)) f (In-map step_along (side b w v) (sides R.kind b) g.second),
 )
 
-pub gap-step-in : (R : Region) (v w : Corner) (a b : Cell) → IsGap R.cells R.kind v w a b → is_dark a ≡ false → is_dark b ≡ true → In (w, v) (steps_round R.kind a) × In (w, v) (steps_round R.kind b)
-gap-step-in R v w a b g e f = (
+pub dart-step-in : (R : Region) (v w : Corner) (a b : Cell) → IsDart R.cells R.kind v w a b → is_dark a ≡ false → is_dark b ≡ true → In (w, v) (steps_round R.kind a) × In (w, v) (steps_round R.kind b)
+dart-step-in R v w a b g e f = (
   subst (λ (t : Bool). In (directed t v w) (steps_round R.kind a)) e (In-map step_along (side a v w) (sides R.kind a) g.first),
   subst (λ (t : Bool). In (directed t w v) (steps_round R.kind b)) f (In-map step_along (side b w v) (sides R.kind b) g.second),
 )
@@ -116,8 +116,8 @@ module _ (R : Region) (v : Corner) (inner : is_inner R v ≡ true) where
   covering : (a : Cell) → Claims R.cells (λ s. not (covers s a)) (λ u w. not (has_edge R.kind a u w)) v R.kind
   covering a =
       claims R.cells (λ s. not (covers s a)) (λ u w. not (has_edge R.kind a u w)) v R.kind
-      (λ w x y g e f. let p = gap-step-out R v w x y g e f in ap not (cover-edge R.kind a x y (v, w) (colours-differ x y e f) p.0 p.1))
-      (λ w x y g e f. let p = gap-step-in R v w x y g e f in ap not (cover-edge R.kind a x y (w, v) (λ same. colours-differ y x f e (sym same)) p.0 p.1))
+      (λ w x y g e f. let p = dart-step-out R v w x y g e f in ap not (cover-edge R.kind a x y (v, w) (colours-differ x y e f) p.0 p.1))
+      (λ w x y g e f. let p = dart-step-in R v w x y g e f in ap not (cover-edge R.kind a x y (w, v) (λ same. colours-differ y x f e (sym same)) p.0 p.1))
       (and_parts _ _ inner).0 (inner-ring R v inner)
 
   pub hi-covers : (a : Cell) → In v (corners R.kind a) → (s : Tile) × In s (hi R.kind v) × (covers s a ≡ true)

@@ -31,7 +31,7 @@ use Rattle.tl_closing.proofs.Crossed.{TilingParts, tiling-parts, is_crossed, cro
 use Rattle.tl_closing.proofs.Ring.{HasRing, back-is, inner-ring}
 
 -- two cells of a ring, one after the other, share the edge between the corner v and w
-pub record IsGap (cells : List Cell) (k : Kind) (v w : Corner) (a b : Cell) : Type 0 where
+pub record IsDart (cells : List Cell) (k : Kind) (v w : Corner) (a b : Cell) : Type 0 where
   pub inside : In a cells
   pub first : In (side a v w) (sides k a)
   pub second : In (side b w v) (sides k b)
@@ -90,15 +90,15 @@ module _ (R : Region) (A : List Tile) (tiling : TilingParts R A) where
   apart a b e f same = cc (e, f, ap is_dark same)
 
   -- a dark cell and the next: the step goes out from the corner
-  pub gap-out : (v w : Corner) (a b : Cell) → IsGap R.cells R.kind v w a b → is_dark a ≡ true → is_dark b ≡ false → is_in A (tile_of a b) ≡ is_crossed R A (v, w)
-  gap-out v w a b g e f =
+  pub dart-out : (v w : Corner) (a b : Cell) → IsDart R.cells R.kind v w a b → is_dark a ≡ true → is_dark b ≡ false → is_in A (tile_of a b) ≡ is_crossed R A (v, w)
+  dart-out v w a b g e f =
       tile-crossed a b (v, w) (apart a b e f)
       (subst (λ (t : Bool). In (directed t v w) (steps_round R.kind a)) e (In-map step_along (side a v w) (sides R.kind a) g.first))
       (subst (λ (t : Bool). In (directed t w v) (steps_round R.kind b)) f (In-map step_along (side b w v) (sides R.kind b) g.second))
 
   -- a light cell and the next: the step leads to it
-  pub gap-in : (v w : Corner) (a b : Cell) → IsGap R.cells R.kind v w a b → is_dark a ≡ false → is_dark b ≡ true → is_in A (tile_of a b) ≡ is_crossed R A (w, v)
-  gap-in v w a b g e f =
+  pub dart-in : (v w : Corner) (a b : Cell) → IsDart R.cells R.kind v w a b → is_dark a ≡ false → is_dark b ≡ true → is_in A (tile_of a b) ≡ is_crossed R A (w, v)
+  dart-in v w a b g e f =
       tile-crossed a b (w, v) (λ same. apart b a f e (sym same))
       (subst (λ (t : Bool). In (directed t v w) (steps_round R.kind a)) e (In-map step_along (side a v w) (sides R.kind a) g.first))
       (subst (λ (t : Bool). In (directed t w v) (steps_round R.kind b)) f (In-map step_along (side b w v) (sides R.kind b) g.second))
@@ -177,33 +177,33 @@ module _ (cells : List Cell) (v : Corner) (g : SquareRing cells v) where
   back : Corner
   back = corner v.r g.nw.c
 
-  gap-up : IsGap cells Square v up g.nw g.ne
+  dart-up : IsDart cells Square v up g.nw g.ne
   unfolding up
-  gap-up = record {
+  dart-up = record {
     inside = g.nw_in;
     first = inr (inr (inl (side_ends g.nw _ _ _ _ (sym g.nw_r) (sym g.nw_c) refl (sym g.nw_c))));
     second = inl (side_ends g.ne _ _ _ _ (omega (arith, g.nw_r, g.ne_r)) (omega (arith, g.ne_c)) (sym g.ne_r) (omega (arith, g.ne_c)));
   }
 
-  gap-on : IsGap cells Square v on g.ne g.se
+  dart-on : IsDart cells Square v on g.ne g.se
   unfolding on
-  gap-on = record {
+  dart-on = record {
     inside = g.ne_in;
     first = inr (inl (side_ends g.ne _ _ _ _ (sym g.ne_r) (omega (arith, g.ne_c)) (sym g.ne_r) (omega (arith, g.ne_c))));
     second = inr (inr (inr (inl (side_ends g.se _ _ _ _ (omega (arith, g.se_r)) (omega (arith, g.se_c)) (omega (arith, g.se_r)) (omega (arith, g.se_c))))));
   }
 
-  gap-down : IsGap cells Square v down g.se g.sw
+  dart-down : IsDart cells Square v down g.se g.sw
   unfolding down
-  gap-down = record {
+  dart-down = record {
     inside = g.se_in;
     first = inl (side_ends g.se _ _ _ _ (omega (arith, g.se_r)) (omega (arith, g.se_c)) (omega (arith, g.se_r)) (omega (arith, g.se_c)));
     second = inr (inr (inl (side_ends g.sw _ _ _ _ (omega (arith, g.sw_r)) (sym g.sw_c) (omega (arith, g.sw_r)) (sym g.sw_c))));
   }
 
-  gap-back : IsGap cells Square v back g.sw g.nw
+  dart-back : IsDart cells Square v back g.sw g.nw
   unfolding back
-  gap-back = record {
+  dart-back = record {
     inside = g.sw_in;
     first = inr (inr (inr (inl (side_ends g.sw _ _ _ _ (omega (arith, g.sw_r)) (sym g.sw_c) (omega (arith, g.sw_r)) (omega (arith, g.sw_c, g.nw_c))))));
     second = inr (inl (side_ends g.nw _ _ _ _ (sym g.nw_r) refl (sym g.nw_r) (sym g.nw_c)));
@@ -245,10 +245,10 @@ module _ (cells : List Cell) (test : Tile → Bool) (crossed : Corner → Corner
   all_in ps = list_all test (map (λ p. tile_of p.0 p.1) ps)
 
   abbrev pub Outs : Kind → Type 0
-  Outs k = (w : Corner) (a b : Cell) → IsGap cells k v w a b → is_dark a ≡ true → is_dark b ≡ false → test (tile_of a b) ≡ crossed v w
+  Outs k = (w : Corner) (a b : Cell) → IsDart cells k v w a b → is_dark a ≡ true → is_dark b ≡ false → test (tile_of a b) ≡ crossed v w
 
   abbrev pub Ins : Kind → Type 0
-  Ins k = (w : Corner) (a b : Cell) → IsGap cells k v w a b → is_dark a ≡ false → is_dark b ≡ true → test (tile_of a b) ≡ crossed w v
+  Ins k = (w : Corner) (a b : Cell) → IsDart cells k v w a b → is_dark a ≡ false → is_dark b ≡ true → test (tile_of a b) ≡ crossed w v
 
   abbrev pub Claims : Kind → Type 0
   Claims k =
@@ -262,11 +262,11 @@ module _ (cells : List Cell) (test : Tile → Bool) (crossed : Corner → Corner
       even_case even = (
         ap (λ (cs : List Cell). all_in (out_pairs cs)) (cells-square cells v g)
             ∙ (ap all_in (pick-first (λ p. is_dark p.0) (g.nw, g.ne) (g.ne, g.se) (g.se, g.sw) (g.sw, g.nw) (nw even) (ne even) (se even) (sw even))
-            ∙ (two (out (up cells v g) g.nw g.ne (gap-up cells v g) (nw even) (ne even)) (out (down cells v g) g.se g.sw (gap-down cells v g) (se even) (sw even))
+            ∙ (two (out (up cells v g) g.nw g.ne (dart-up cells v g) (nw even) (ne even)) (out (down cells v g) g.se g.sw (dart-down cells v g) (se even) (sw even))
             ∙ ap (list_all (λ w. crossed v w)) (sym (outs-even cells v g even)))),
         ap (λ (cs : List Cell). all_in (in_pairs cs)) (cells-square cells v g)
             ∙ (ap all_in (pick-second (λ p. is_dark p.1) (g.nw, g.ne) (g.ne, g.se) (g.se, g.sw) (g.sw, g.nw) (ne even) (se even) (sw even) (nw even))
-            ∙ (two (into (on cells v g) g.ne g.se (gap-on cells v g) (ne even) (se even)) (into (back cells v g) g.sw g.nw (gap-back cells v g) (sw even) (nw even))
+            ∙ (two (into (on cells v g) g.ne g.se (dart-on cells v g) (ne even) (se even)) (into (back cells v g) g.sw g.nw (dart-back cells v g) (sw even) (nw even))
             ∙ ap (list_all (λ u. crossed u v)) (sym (ins-even cells v g even)))),
       )
         where
@@ -286,11 +286,11 @@ module _ (cells : List Cell) (test : Tile → Bool) (crossed : Corner → Corner
       odd_case odd = (
         ap (λ (cs : List Cell). all_in (out_pairs cs)) (cells-square cells v g)
             ∙ (ap all_in (pick-second (λ p. is_dark p.0) (g.nw, g.ne) (g.ne, g.se) (g.se, g.sw) (g.sw, g.nw) (nw odd) (ne odd) (se odd) (sw odd))
-            ∙ (two (out (on cells v g) g.ne g.se (gap-on cells v g) (ne odd) (se odd)) (out (back cells v g) g.sw g.nw (gap-back cells v g) (sw odd) (nw odd))
+            ∙ (two (out (on cells v g) g.ne g.se (dart-on cells v g) (ne odd) (se odd)) (out (back cells v g) g.sw g.nw (dart-back cells v g) (sw odd) (nw odd))
             ∙ (swap-two (crossed v (on cells v g)) (crossed v (back cells v g)) ∙ ap (list_all (λ w. crossed v w)) (sym (outs-odd cells v g odd))))),
         ap (λ (cs : List Cell). all_in (in_pairs cs)) (cells-square cells v g)
             ∙ (ap all_in (pick-first (λ p. is_dark p.1) (g.nw, g.ne) (g.ne, g.se) (g.se, g.sw) (g.sw, g.nw) (ne odd) (se odd) (sw odd) (nw odd))
-            ∙ (two (into (up cells v g) g.nw g.ne (gap-up cells v g) (nw odd) (ne odd)) (into (down cells v g) g.se g.sw (gap-down cells v g) (se odd) (sw odd))
+            ∙ (two (into (up cells v g) g.nw g.ne (dart-up cells v g) (nw odd) (ne odd)) (into (down cells v g) g.se g.sw (dart-down cells v g) (se odd) (sw odd))
             ∙ ap (list_all (λ u. crossed u v)) (sym (ins-odd cells v g odd)))),
       )
         where
@@ -433,49 +433,49 @@ module _ (cells : List Cell) (v : Corner) (odd : (v.r + v.x) % 2 ≡ 1) (g : Tri
   w5 : Corner
   w5 = corner v.r g.one.c
 
-  gap-0 : IsGap cells Triangle v w0 g.one g.two
+  dart-0 : IsDart cells Triangle v w0 g.one g.two
   unfolding w0
-  gap-0 = record {
+  dart-0 = record {
     inside = g.one_in;
     first = among-up g.one _ dark-one (inr (inr (inl (side_ends g.one _ _ _ _ (sym g.one_r) (sym g.one_c) refl (omega (arith, g.one_c, g.two_c))))));
     second = among-down g.two _ light-two (inl (side_ends g.two _ _ _ _ (omega (arith, g.one_r, g.two_r)) refl (sym g.two_r) (sym g.two_c)));
   }
 
-  gap-1 : IsGap cells Triangle v w1 g.two g.three
+  dart-1 : IsDart cells Triangle v w1 g.two g.three
   unfolding w1
-  gap-1 = record {
+  dart-1 = record {
     inside = g.two_in;
     first = among-down g.two _ light-two (inr (inl (side_ends g.two _ _ _ _ (sym g.two_r) (sym g.two_c) (omega (arith, g.one_r, g.two_r)) (omega (arith, g.two_c)))));
     second = among-up g.three _ dark-three (inl (side_ends g.three _ _ _ _ (omega (arith, g.one_r, g.three_r)) (omega (arith, g.three_c)) (sym g.three_r) (omega (arith, g.three_c))));
   }
 
-  gap-2 : IsGap cells Triangle v w2 g.three g.four
+  dart-2 : IsDart cells Triangle v w2 g.three g.four
   unfolding w2
-  gap-2 = record {
+  dart-2 = record {
     inside = g.three_in;
     first = among-up g.three _ dark-three (inr (inl (side_ends g.three _ _ _ _ (sym g.three_r) (omega (arith, g.three_c)) (sym g.three_r) (omega (arith, g.three_c)))));
     second = among-down g.four _ light-four (inr (inr (inl (side_ends g.four _ _ _ _ (omega (arith, g.four_r)) (omega (arith, g.four_c)) (omega (arith, g.four_r)) (omega (arith, g.four_c))))));
   }
 
-  gap-3 : IsGap cells Triangle v w3 g.four g.five
+  dart-3 : IsDart cells Triangle v w3 g.four g.five
   unfolding w3
-  gap-3 = record {
+  dart-3 = record {
     inside = g.four_in;
     first = among-down g.four _ light-four (inl (side_ends g.four _ _ _ _ (omega (arith, g.four_r)) (omega (arith, g.four_c)) (omega (arith, g.four_r)) (omega (arith, g.four_c))));
     second = among-up g.five _ dark-five (inr (inr (inl (side_ends g.five _ _ _ _ (omega (arith, g.five_r)) (omega (arith, g.five_c)) (omega (arith, g.five_r)) (omega (arith, g.five_c))))));
   }
 
-  gap-4 : IsGap cells Triangle v w4 g.five g.six
+  dart-4 : IsDart cells Triangle v w4 g.five g.six
   unfolding w4
-  gap-4 = record {
+  dart-4 = record {
     inside = g.five_in;
     first = among-up g.five _ dark-five (inl (side_ends g.five _ _ _ _ (omega (arith, g.five_r)) (omega (arith, g.five_c)) (omega (arith, g.five_r)) (omega (arith, g.five_c, g.two_c))));
     second = among-down g.six _ light-six (inr (inl (side_ends g.six _ _ _ _ (omega (arith, g.six_r)) (omega (arith, g.six_c, g.two_c)) (omega (arith, g.six_r)) (omega (arith, g.six_c)))));
   }
 
-  gap-5 : IsGap cells Triangle v w5 g.six g.one
+  dart-5 : IsDart cells Triangle v w5 g.six g.one
   unfolding w5
-  gap-5 = record {
+  dart-5 = record {
     inside = g.six_in;
     first = among-down g.six _ light-six (inr (inr (inl (side_ends g.six _ _ _ _ (omega (arith, g.six_r)) (omega (arith, g.six_c)) (omega (arith, g.six_r)) (omega (arith, g.six_c, g.one_c))))));
     second = among-up g.one _ dark-one (inr (inl (side_ends g.one _ _ _ _ (sym g.one_r) refl (sym g.one_r) (sym g.one_c))));
@@ -510,17 +510,17 @@ module _ (cells : List Cell) (test : Tile → Bool) (crossed : Corner → Corner
         ∙ (ap (all_in cells test crossed v)
         (pick-odd (λ p. is_dark p.0) (g.one, g.two) (g.two, g.three) (g.three, g.four) (g.four, g.five) (g.five, g.six) (g.six, g.one)
         (dark-one cells v odd g) (light-two cells v odd g) (dark-three cells v odd g) (light-four cells v odd g) (dark-five cells v odd g) (light-six cells v odd g))
-        ∙ (three-same (out (w0 cells v odd g) g.one g.two (gap-0 cells v odd g) (dark-one cells v odd g) (light-two cells v odd g))
-        (out (w2 cells v odd g) g.three g.four (gap-2 cells v odd g) (dark-three cells v odd g) (light-four cells v odd g))
-        (out (w4 cells v odd g) g.five g.six (gap-4 cells v odd g) (dark-five cells v odd g) (light-six cells v odd g))
+        ∙ (three-same (out (w0 cells v odd g) g.one g.two (dart-0 cells v odd g) (dark-one cells v odd g) (light-two cells v odd g))
+        (out (w2 cells v odd g) g.three g.four (dart-2 cells v odd g) (dark-three cells v odd g) (light-four cells v odd g))
+        (out (w4 cells v odd g) g.five g.six (dart-4 cells v odd g) (dark-five cells v odd g) (light-six cells v odd g))
         ∙ (swap-three (crossed v (w0 cells v odd g)) (crossed v (w2 cells v odd g)) (crossed v (w4 cells v odd g)) ∙ ap (list_all (λ w. crossed v w)) (sym (outs-triangle cells v odd g))))),
     ap (λ (cs : List Cell). all_in cells test crossed v (in_pairs cs)) (cells-triangle cells v odd g)
         ∙ (ap (all_in cells test crossed v)
         (pick-even (λ p. is_dark p.1) (g.one, g.two) (g.two, g.three) (g.three, g.four) (g.four, g.five) (g.five, g.six) (g.six, g.one)
         (light-two cells v odd g) (dark-three cells v odd g) (light-four cells v odd g) (dark-five cells v odd g) (light-six cells v odd g) (dark-one cells v odd g))
-        ∙ (three-same (into (w1 cells v odd g) g.two g.three (gap-1 cells v odd g) (light-two cells v odd g) (dark-three cells v odd g))
-        (into (w3 cells v odd g) g.four g.five (gap-3 cells v odd g) (light-four cells v odd g) (dark-five cells v odd g))
-        (into (w5 cells v odd g) g.six g.one (gap-5 cells v odd g) (light-six cells v odd g) (dark-one cells v odd g))
+        ∙ (three-same (into (w1 cells v odd g) g.two g.three (dart-1 cells v odd g) (light-two cells v odd g) (dark-three cells v odd g))
+        (into (w3 cells v odd g) g.four g.five (dart-3 cells v odd g) (light-four cells v odd g) (dark-five cells v odd g))
+        (into (w5 cells v odd g) g.six g.one (dart-5 cells v odd g) (light-six cells v odd g) (dark-one cells v odd g))
         ∙ ap (list_all (λ u. crossed u v)) (sym (ins-triangle cells v odd g)))),
   )
 
@@ -547,7 +547,7 @@ pub standing-crossed : (R : Region) (A : List Tile) (v : Corner) → IsTrue (is_
     × (stands_low R A v ≡ list_all (λ u. is_crossed R A (u, v)) (steps_in R.kind v))
 standing-crossed R A v tiling inner =
     standing R A v (λ u w. is_crossed R A (u, w)) inner
-    (λ w a b g e f. gap-out R A (tiling-parts R A tiling) v w a b g e f) (λ w a b g e f. gap-in R A (tiling-parts R A tiling) v w a b g e f)
+    (λ w a b g e f. dart-out R A (tiling-parts R A tiling) v w a b g e f) (λ w a b g e f. dart-in R A (tiling-parts R A tiling) v w a b g e f)
 
 -- a step is crossed where the heights fall along it
 pub crossed-told : (k : Kind) (x y : ℤ) (t : Bool) → y ≡ x +ℤ cond t (negsuc (rise k - 2)) (pos 1) → t ≡ int_lt y x
@@ -576,14 +576,14 @@ standing-heights R A h v tiling along inner = standing R A v (λ u w. int_lt (h 
     parts : TilingParts R A
     parts = tiling-parts R A tiling
 
-    out : (w : Corner) (a b : Cell) → IsGap R.cells R.kind v w a b → is_dark a ≡ true → is_dark b ≡ false → is_in A (tile_of a b) ≡ int_lt (h w) (h v)
+    out : (w : Corner) (a b : Cell) → IsDart R.cells R.kind v w a b → is_dark a ≡ true → is_dark b ≡ false → is_in A (tile_of a b) ≡ int_lt (h w) (h v)
     out w a b g e f =
         let at : In (v, w) (steps_round R.kind a) =
         subst (λ (t : Bool). In (directed t v w) (steps_round R.kind a)) e (In-map step_along (side a v w) (sides R.kind a) g.first) in
-        gap-out R A parts v w a b g e f ∙ crossed-told R.kind (h v) (h w) (is_crossed R A (v, w)) (along v w (is_step-from R a v w g.inside at))
+        dart-out R A parts v w a b g e f ∙ crossed-told R.kind (h v) (h w) (is_crossed R A (v, w)) (along v w (is_step-from R a v w g.inside at))
 
-    into : (w : Corner) (a b : Cell) → IsGap R.cells R.kind v w a b → is_dark a ≡ false → is_dark b ≡ true → is_in A (tile_of a b) ≡ int_lt (h v) (h w)
+    into : (w : Corner) (a b : Cell) → IsDart R.cells R.kind v w a b → is_dark a ≡ false → is_dark b ≡ true → is_in A (tile_of a b) ≡ int_lt (h v) (h w)
     into w a b g e f =
         let at : In (w, v) (steps_round R.kind a) =
         subst (λ (t : Bool). In (directed t v w) (steps_round R.kind a)) e (In-map step_along (side a v w) (sides R.kind a) g.first) in
-        gap-in R A parts v w a b g e f ∙ crossed-told R.kind (h w) (h v) (is_crossed R A (w, v)) (along w v (is_step-from R a w v g.inside at))
+        dart-in R A parts v w a b g e f ∙ crossed-told R.kind (h w) (h v) (is_crossed R A (w, v)) (along w v (is_step-from R a w v g.inside at))

@@ -1,4 +1,4 @@
--- Gaps, boundary corners and closed walks of small regions, by evaluation.
+-- Darts, boundary corners and closed walks of small regions, by evaluation.
 use Rattle.std.proofs.Common.{◌≡◌, false, List, [], ◌∷◌, map, refl, codes, Some, None}
 use Rattle.std.specs.Prelude.{zip, count_by}
 use Rattle.tl_definitions.specs.declared.Kind.{Kind}
@@ -8,20 +8,20 @@ use Rattle.tl_definitions.specs.Lattice.{cell, corner, ring, side, Side}
 use Rattle.tl_definitions.specs.Region.{Region}
 use Rattle.tl_definitions.specs.RegionText.{region_of}
 use Rattle.tl_definitions.specs.Accepted.{turned}
-use Rattle.tl_definitions.specs.Gaps.{gaps, left_cell, right_cell, other_end, leaves, enters}
+use Rattle.tl_definitions.specs.Darts.{darts, left_cell, right_cell, other_end, leaves, enters}
 use Rattle.tl_definitions.specs.Boundary.{side_from, is_boundary_corner, IsClosedWalk}
 use Rattle.tl_definitions.proofs.Cases.{walk_of}
 
--- the cells beside the gaps are each cell of the ring and the next
-gap_cells : (k : Kind) (v : Corner) → map (λ g. (left_cell v g, right_cell v g)) (gaps k) ≡ zip (ring k v) (turned (ring k v))
-gap_cells Square v = refl
-gap_cells Triangle v = refl
+-- the cells beside the darts are each cell of the ring and the next
+dart_cells : (k : Kind) (v : Corner) → map (λ g. (left_cell v g, right_cell v g)) (darts k) ≡ zip (ring k v) (turned (ring k v))
+dart_cells Square v = refl
+dart_cells Triangle v = refl
 
 -- and the edges into them go round the corner
-ends_square : map (other_end Square (corner 3 3)) (gaps Square) ≡ corner 2 3 ∷ corner 3 4 ∷ corner 4 3 ∷ corner 3 2 ∷ []
+ends_square : map (other_end Square (corner 3 3)) (darts Square) ≡ corner 2 3 ∷ corner 3 4 ∷ corner 4 3 ∷ corner 3 2 ∷ []
 ends_square = refl
 
-ends_triangle : map (other_end Triangle (corner 3 4)) (gaps Triangle)
+ends_triangle : map (other_end Triangle (corner 3 4)) (darts Triangle)
     ≡ corner 2 3 ∷ corner 2 5 ∷ corner 3 6 ∷ corner 4 5 ∷ corner 4 3 ∷ corner 3 2 ∷ []
 ends_triangle = refl
 
@@ -64,8 +64,8 @@ open_walk w = cc w.closed
 abbrev diagonal : Region
 diagonal = region_of Square (codes "#." ∷ codes ".#" ∷ [])
 
-pinch_leaves : count_by (leaves diagonal (corner 1 1)) (gaps Square) ≡ 2
+pinch_leaves : count_by (leaves diagonal (corner 1 1)) (darts Square) ≡ 2
 pinch_leaves = refl
 
-pinch_enters : count_by (enters diagonal (corner 1 1)) (gaps Square) ≡ 2
+pinch_enters : count_by (enters diagonal (corner 1 1)) (darts Square) ≡ 2
 pinch_enters = refl

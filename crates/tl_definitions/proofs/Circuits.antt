@@ -7,16 +7,16 @@ use Rattle.tl_definitions.specs.declared.Kind.{Kind}
 use Rattle.tl_definitions.specs.declared.Kind.TheVariants.{Square, Triangle}
 use Rattle.tl_definitions.specs.declared.Cell.{Cell}
 use Rattle.tl_definitions.specs.declared.Corner.{Corner}
-use Rattle.tl_definitions.specs.declared.rings.Gap.{Gap}
+use Rattle.tl_definitions.specs.declared.rings.Dart.{Dart}
 use Rattle.tl_definitions.specs.Lattice.{cell_eq, corner_eq, corner_lt, Side}
 use Rattle.tl_definitions.specs.Region.{Region, has, corner_places, boundary, side_eq}
 use Rattle.tl_definitions.specs.Accepted.{IsPlaced, turned, is_pinch, distinct, is_first_of, circuit_corners, IsCircuit}
-use Rattle.tl_definitions.specs.Gaps.{gaps}
+use Rattle.tl_definitions.specs.Darts.{darts}
 use Rattle.tl_definitions.specs.Boundary.{is_boundary_corner, IsClosedWalk}
 use Rattle.tl_definitions.proofs.Regions.{any-filter-places}
 use Rattle.tl_definitions.proofs.Sublists.{In, In-map, Each, Each-at}
 use Rattle.tl_definitions.proofs.Ordered.{list_all-In, In-list_all}
-use Rattle.tl_definitions.proofs.Gaps.{cell_back-lies}
+use Rattle.tl_definitions.proofs.Darts.{cell_back-lies}
 use Rattle.tl_definitions.proofs.CornerRings.{any-In, In-any_of, corner_eq-same, corner_eq-refl}
 use Rattle.tl_definitions.proofs.BoundarySides.{boundary-corners, boundary-leaves, boundary-comes}
 use Rattle.tl_definitions.proofs.NextCorner.{one_side_from}
@@ -25,11 +25,11 @@ use Rattle.tl_definitions.proofs.Walks.{side-In, In-side, In-map_parts, In-last_
 
 -- ---- boundary corners are corner places
 
-abbrev IsNear : Gap → Type 0
+abbrev IsNear : Dart → Type 0
 IsNear g = (g.left.rows ≤ 1) × (g.left.columns ≤ 2) × (g.right.rows ≤ 1) × (g.right.columns ≤ 2)
 
-gaps_near : (k : Kind) → Each IsNear (gaps k)
-gaps_near Square = (
+darts_near : (k : Kind) → Each IsNear (darts k)
+darts_near Square = (
   (omega arith, omega arith, omega arith, omega arith),
   (
     (omega arith, omega arith, omega arith, omega arith),
@@ -39,7 +39,7 @@ gaps_near Square = (
     ),
   ),
 )
-gaps_near Triangle = (
+darts_near Triangle = (
   (omega arith, omega arith, omega arith, omega arith),
   (
     (omega arith, omega arith, omega arith, omega arith),
@@ -70,8 +70,8 @@ boundary-within R s placed i =
     let (h, m) = boundary-comes R s i in
     let here = cell_back-lies s.from g.left s.cell l.cell in
     let there = cell_back-lies s.to h.right s.cell m.cell in
-    let near : IsNear g = Each-at IsNear g (gaps R.kind) (gaps_near R.kind) l.gap in
-    let near_there : IsNear h = Each-at IsNear h (gaps R.kind) (gaps_near R.kind) m.gap in
+    let near : IsNear g = Each-at IsNear g (darts R.kind) (darts_near R.kind) l.dart in
+    let near_there : IsNear h = Each-at IsNear h (darts R.kind) (darts_near R.kind) m.dart in
     let within = has-within R s.cell placed l.inside in (
       omega (arith, here.row, near.0, within.0),
       omega (arith, here.column, near.1, within.1),

@@ -1,4 +1,4 @@
--- The directed steps from a corner, counted by the gaps of its ring.
+-- The directed steps from a corner, counted by the darts of its ring.
 use Rattle.std.proofs.Common.{◌≡◌, ℕ, ◌+◌, ◌%◌, inl, inr, Bool, true, false, ◌&&◌, List, [], ◌∷◌, map, length, cond, Option, Some, None, refl, sym, ◌∙◌, ap, subst, arith}
 use Rattle.std.specs.Prelude.{◌==◌, filter, count_by}
 use Rattle.std.proofs.lemmas.Bool.{eqb-true, eqb-false, eq-eqb, ne_eqb}
@@ -6,17 +6,17 @@ use Rattle.std.proofs.lemmas.List.Sums.{sum_by-cons}
 use Rattle.tl_definitions.specs.declared.Kind.{Kind}
 use Rattle.tl_definitions.specs.declared.Kind.TheVariants.{Square, Triangle}
 use Rattle.tl_definitions.specs.declared.Corner.{Corner}
-use Rattle.tl_definitions.specs.declared.rings.Gap.{Gap}
+use Rattle.tl_definitions.specs.declared.rings.Dart.{Dart}
 use Rattle.tl_definitions.specs.Lattice.{corner, corner_at, less, is_corner, steps_out}
 use Rattle.tl_definitions.specs.Region.{Region, present, is_edge, steps}
-use Rattle.tl_definitions.specs.Gaps.{gaps, left_cell, right_cell, other_end, is_outward, is_edge_of}
+use Rattle.tl_definitions.specs.Darts.{darts, left_cell, right_cell, other_end, is_outward, is_edge_of}
 use Rattle.tl_definitions.proofs.Regions.{same_test, or-cases}
 use Rattle.tl_definitions.proofs.Sublists.{In}
-use Rattle.tl_definitions.proofs.Gaps.{IsEnd, cell_back-lies, gap, less-some, less-of}
-use Rattle.tl_definitions.proofs.GapSides.{left_side, right_side}
-use Rattle.tl_definitions.proofs.CornerRings.{is_edge-gap, has_at-some}
+use Rattle.tl_definitions.proofs.Darts.{IsEnd, cell_back-lies, dart, less-some, less-of}
+use Rattle.tl_definitions.proofs.DartSides.{left_side, right_side}
+use Rattle.tl_definitions.proofs.CornerRings.{is_edge-dart, has_at-some}
 
--- ---- a step by its gap
+-- ---- a step by its dart
 
 corner_at-some : (o p : Option ℕ) (w : Corner) → corner_at o p ≡ Some w → (o ≡ Some w.r) × (p ≡ Some w.x)
 corner_at-some None p w e = cc e
@@ -34,48 +34,48 @@ some_number m n e = cc e
 some_from : (m n : ℕ) → m ≡ n → Some m ≡ Some n
 some_from m n e = ap (λ (z : ℕ). Some z) e
 
--- the step leads to the gap's other end, and is there where that has coordinates
-record IsStepBy (k : Kind) (v : Corner) (g : Gap) (o : Option Corner) : Type 0 where
+-- the step leads to the dart's other end, and is there where that has coordinates
+record IsStepBy (k : Kind) (v : Corner) (g : Dart) (o : Option Corner) : Type 0 where
   ends : (w : Corner) → o ≡ Some w → IsEnd k v g w
   leads : (w : Corner) → IsEnd k v g w → o ≡ Some w
 
-up : (v : Corner) → IsStepBy Square v (gap 1 1 1 0) (corner_at (less v.r 1) (Some v.x))
+up : (v : Corner) → IsStepBy Square v (dart 1 1 1 0) (corner_at (less v.r 1) (Some v.x))
 up v = record {
   ends = λ w e. let p = corner_at-some (less v.r 1) (Some v.x) w e in record { row = omega (arith, less-some v.r 1 w.r p.0); column = omega (arith, some_number v.x w.x p.1) };
   leads = λ w e. corner_at-of (less v.r 1) (Some v.x) w (less-of v.r 1 w.r (omega (arith, e.row))) (some_from v.x w.x (omega (arith, e.column)));
 }
 
-left : (v : Corner) → IsStepBy Square v (gap 0 1 1 1) (corner_at (Some v.r) (less v.x 1))
+left : (v : Corner) → IsStepBy Square v (dart 0 1 1 1) (corner_at (Some v.r) (less v.x 1))
 left v = record {
   ends = λ w e. let p = corner_at-some (Some v.r) (less v.x 1) w e in record { row = omega (arith, some_number v.r w.r p.0); column = omega (arith, less-some v.x 1 w.x p.1) };
   leads = λ w e. corner_at-of (Some v.r) (less v.x 1) w (some_from v.r w.r (omega (arith, e.row))) (less-of v.x 1 w.x (omega (arith, e.column)));
 }
 
-down : (v : Corner) → IsStepBy Square v (gap 0 0 0 1) (corner_at (Some (v.r + 1)) (Some v.x))
+down : (v : Corner) → IsStepBy Square v (dart 0 0 0 1) (corner_at (Some (v.r + 1)) (Some v.x))
 down v = record {
   ends = λ w e. let p = corner_at-some (Some (v.r + 1)) (Some v.x) w e in record { row = omega (arith, some_number (v.r + 1) w.r p.0); column = omega (arith, some_number v.x w.x p.1) };
   leads = λ w e. corner_at-of (Some (v.r + 1)) (Some v.x) w (some_from (v.r + 1) w.r (omega (arith, e.row))) (some_from v.x w.x (omega (arith, e.column)));
 }
 
-right : (v : Corner) → IsStepBy Square v (gap 1 0 0 0) (corner_at (Some v.r) (Some (v.x + 1)))
+right : (v : Corner) → IsStepBy Square v (dart 1 0 0 0) (corner_at (Some v.r) (Some (v.x + 1)))
 right v = record {
   ends = λ w e. let p = corner_at-some (Some v.r) (Some (v.x + 1)) w e in record { row = omega (arith, some_number v.r w.r p.0); column = omega (arith, some_number (v.x + 1) w.x p.1) };
   leads = λ w e. corner_at-of (Some v.r) (Some (v.x + 1)) w (some_from v.r w.r (omega (arith, e.row))) (some_from (v.x + 1) w.x (omega (arith, e.column)));
 }
 
-along : (v : Corner) → IsStepBy Triangle v (gap 1 0 0 0) (corner_at (Some v.r) (Some (v.x + 2)))
+along : (v : Corner) → IsStepBy Triangle v (dart 1 0 0 0) (corner_at (Some v.r) (Some (v.x + 2)))
 along v = record {
   ends = λ w e. let p = corner_at-some (Some v.r) (Some (v.x + 2)) w e in record { row = omega (arith, some_number v.r w.r p.0); column = omega (arith, some_number (v.x + 2) w.x p.1) };
   leads = λ w e. corner_at-of (Some v.r) (Some (v.x + 2)) w (some_from v.r w.r (omega (arith, e.row))) (some_from (v.x + 2) w.x (omega (arith, e.column)));
 }
 
-up_left : (v : Corner) → IsStepBy Triangle v (gap 1 2 1 1) (corner_at (less v.r 1) (less v.x 1))
+up_left : (v : Corner) → IsStepBy Triangle v (dart 1 2 1 1) (corner_at (less v.r 1) (less v.x 1))
 up_left v = record {
   ends = λ w e. let p = corner_at-some (less v.r 1) (less v.x 1) w e in record { row = omega (arith, less-some v.r 1 w.r p.0); column = omega (arith, less-some v.x 1 w.x p.1) };
   leads = λ w e. corner_at-of (less v.r 1) (less v.x 1) w (less-of v.r 1 w.r (omega (arith, e.row))) (less-of v.x 1 w.x (omega (arith, e.column)));
 }
 
-down_left : (v : Corner) → IsStepBy Triangle v (gap 0 1 0 2) (corner_at (Some (v.r + 1)) (less v.x 1))
+down_left : (v : Corner) → IsStepBy Triangle v (dart 0 1 0 2) (corner_at (Some (v.r + 1)) (less v.x 1))
 down_left v = record {
   ends = λ w e. let p = corner_at-some (Some (v.r + 1)) (less v.x 1) w e in record { row = omega (arith, some_number (v.r + 1) w.r p.0); column = omega (arith, less-some v.x 1 w.x p.1) };
   leads = λ w e. corner_at-of (Some (v.r + 1)) (less v.x 1) w (some_from (v.r + 1) w.r (omega (arith, e.row))) (less-of v.x 1 w.x (omega (arith, e.column)));
@@ -86,16 +86,16 @@ abbrev edge_at : Region → Corner → Option Corner → Bool
 edge_at R v None = false
 edge_at R v (Some w) = is_edge R v w
 
-edge_at-gap : (R : Region) (v : Corner) (g : Gap) (o : Option Corner) → is_corner R.kind v ≡ true → In g (gaps R.kind) → IsStepBy R.kind v g o
+edge_at-dart : (R : Region) (v : Corner) (g : Dart) (o : Option Corner) → is_corner R.kind v ≡ true → In g (darts R.kind) → IsStepBy R.kind v g o
     → edge_at R v o ≡ is_edge_of R v g
-edge_at-gap R v g o h i by = same_test (edge_at R v o) (is_edge_of R v g) (there o refl) back
+edge_at-dart R v g o h i by = same_test (edge_at R v o) (is_edge_of R v g) (there o refl) back
   where
     there : (p : Option Corner) → o ≡ p → edge_at R v p ≡ true → is_edge_of R v g ≡ true
     there None e m = cc m
-    there (Some w) e m = sym (is_edge-gap R v w g h i (by.ends w e)) ∙ m
+    there (Some w) e m = sym (is_edge-dart R v w g h i (by.ends w e)) ∙ m
 
     told : IsEnd R.kind v g (other_end R.kind v g) → is_edge_of R v g ≡ true → edge_at R v o ≡ true
-    told e m = ap (edge_at R v) (by.leads (other_end R.kind v g) e) ∙ (is_edge-gap R v (other_end R.kind v g) g h i e ∙ m)
+    told e m = ap (edge_at R v) (by.leads (other_end R.kind v g) e) ∙ (is_edge-dart R v (other_end R.kind v g) g h i e ∙ m)
 
     back : is_edge_of R v g ≡ true → edge_at R v o ≡ true
     back m = told (elim (or-cases _ _ m) [
@@ -145,78 +145,78 @@ triangles false true false = refl
 triangles false false true = refl
 triangles false false false = refl
 
--- an outward gap counts where its edge is one of the region, and another one doesn't
-outward : (R : Region) (v : Corner) (g : Gap) → (v.r + v.x + (g.left.rows + g.left.columns)) % 2 ≡ 0 → (is_outward v g && is_edge_of R v g) ≡ is_edge_of R v g
+-- an outward dart counts where its edge is one of the region, and another one doesn't
+outward : (R : Region) (v : Corner) (g : Dart) → (v.r + v.x + (g.left.rows + g.left.columns)) % 2 ≡ 0 → (is_outward v g && is_edge_of R v g) ≡ is_edge_of R v g
 outward R v g e = rw (eq-eqb ((v.r + v.x + (g.left.rows + g.left.columns)) % 2) 0 e) refl
 
-inward : (R : Region) (v : Corner) (g : Gap) → ¬ ((v.r + v.x + (g.left.rows + g.left.columns)) % 2 ≡ 0) → (is_outward v g && is_edge_of R v g) ≡ false
+inward : (R : Region) (v : Corner) (g : Dart) → ¬ ((v.r + v.x + (g.left.rows + g.left.columns)) % 2 ≡ 0) → (is_outward v g && is_edge_of R v g) ≡ false
 inward R v g e = rw (ne_eqb ((v.r + v.x + (g.left.rows + g.left.columns)) % 2) 0 e) refl
 
-edge_at-kind : (R : Region) (v : Corner) (k : Kind) (g : Gap) (o : Option Corner) → R.kind ≡ k → is_corner k v ≡ true → In g (gaps k) → IsStepBy k v g o
+edge_at-kind : (R : Region) (v : Corner) (k : Kind) (g : Dart) (o : Option Corner) → R.kind ≡ k → is_corner k v ≡ true → In g (darts k) → IsStepBy k v g o
     → edge_at R v o ≡ is_edge_of R v g
 edge_at-kind R v k g o e =
-    subst (λ (z : Kind). is_corner z v ≡ true → In g (gaps z) → IsStepBy z v g o → edge_at R v o ≡ is_edge_of R v g) e (edge_at-gap R v g o)
+    subst (λ (z : Kind). is_corner z v ≡ true → In g (darts z) → IsStepBy z v g o → edge_at R v o ≡ is_edge_of R v g) e (edge_at-dart R v g o)
 
-abbrev counted : Region → Corner → Gap → Bool
+abbrev counted : Region → Corner → Dart → Bool
 counted R v g = is_outward v g && is_edge_of R v g
 
-square_steps : (R : Region) (v : Corner) → R.kind ≡ Square → length (filter (is_edge R v) (present (steps_out Square v))) ≡ count_by (counted R v) (gaps Square)
+square_steps : (R : Region) (v : Corner) → R.kind ≡ Square → length (filter (is_edge R v) (present (steps_out Square v))) ≡ count_by (counted R v) (darts Square)
 square_steps R v e = go ((v.r + v.x) % 2 == 0) refl
   where
     go : (t : Bool) → ((v.r + v.x) % 2 == 0) ≡ t
         → length (filter (is_edge R v) (present (cond t (corner_at (less v.r 1) (Some v.x) ∷ Some (corner (v.r + 1) v.x) ∷ []) (corner_at (Some v.r) (less v.x 1) ∷ Some (corner v.r (v.x + 1)) ∷ []))))
-        ≡ count_by (counted R v) (gaps Square)
+        ≡ count_by (counted R v) (darts Square)
     go true h =
         let even : (v.r + v.x) % 2 ≡ 0 = eqb-true _ _ h in
-        let a = edge_at-kind R v Square (gap 1 1 1 0) (corner_at (less v.r 1) (Some v.x)) e refl (inl refl) (up v) in
-        let b = edge_at-kind R v Square (gap 0 0 0 1) (Some (corner (v.r + 1) v.x)) e refl (inr (inr (inl refl))) (down v) in
-        let ga = outward R v (gap 1 1 1 0) (omega (arith, even)) in
-        let gb = inward R v (gap 1 0 0 0) (omega (arith, even)) in
-        let gc = outward R v (gap 0 0 0 1) (omega (arith, even)) in
-        let gd = inward R v (gap 0 1 1 1) (omega (arith, even)) in
+        let a = edge_at-kind R v Square (dart 1 1 1 0) (corner_at (less v.r 1) (Some v.x)) e refl (inl refl) (up v) in
+        let b = edge_at-kind R v Square (dart 0 0 0 1) (Some (corner (v.r + 1) v.x)) e refl (inr (inr (inl refl))) (down v) in
+        let ga = outward R v (dart 1 1 1 0) (omega (arith, even)) in
+        let gb = inward R v (dart 1 0 0 0) (omega (arith, even)) in
+        let gc = outward R v (dart 0 0 0 1) (omega (arith, even)) in
+        let gd = inward R v (dart 0 1 1 1) (omega (arith, even)) in
         steps-tally R v (corner_at (less v.r 1) (Some v.x) ∷ Some (corner (v.r + 1) v.x) ∷ [])
         ∙ (ap (λ (l : List Bool). tally l) (λ i. a i ∷ b i ∷ [])
-        ∙ (even_square (is_edge_of R v (gap 1 1 1 0)) (is_edge_of R v (gap 0 0 0 1))
+        ∙ (even_square (is_edge_of R v (dart 1 1 1 0)) (is_edge_of R v (dart 0 0 0 1))
         ∙ (sym (ap (λ (l : List Bool). tally l) (λ i. ga i ∷ gb i ∷ gc i ∷ gd i ∷ []))
-        ∙ sym (count_by-tally (counted R v) (gaps Square)))))
+        ∙ sym (count_by-tally (counted R v) (darts Square)))))
     go false h =
         let uneven : ¬ ((v.r + v.x) % 2 ≡ 0) = eqb-false _ _ h in
-        let a = edge_at-kind R v Square (gap 0 1 1 1) (corner_at (Some v.r) (less v.x 1)) e refl (inr (inr (inr (inl refl)))) (left v) in
-        let b = edge_at-kind R v Square (gap 1 0 0 0) (Some (corner v.r (v.x + 1))) e refl (inr (inl refl)) (right v) in
-        let ga = inward R v (gap 1 1 1 0) (omega (arith, uneven)) in
-        let gb = outward R v (gap 1 0 0 0) (omega (arith, uneven)) in
-        let gc = inward R v (gap 0 0 0 1) (omega (arith, uneven)) in
-        let gd = outward R v (gap 0 1 1 1) (omega (arith, uneven)) in
+        let a = edge_at-kind R v Square (dart 0 1 1 1) (corner_at (Some v.r) (less v.x 1)) e refl (inr (inr (inr (inl refl)))) (left v) in
+        let b = edge_at-kind R v Square (dart 1 0 0 0) (Some (corner v.r (v.x + 1))) e refl (inr (inl refl)) (right v) in
+        let ga = inward R v (dart 1 1 1 0) (omega (arith, uneven)) in
+        let gb = outward R v (dart 1 0 0 0) (omega (arith, uneven)) in
+        let gc = inward R v (dart 0 0 0 1) (omega (arith, uneven)) in
+        let gd = outward R v (dart 0 1 1 1) (omega (arith, uneven)) in
         steps-tally R v (corner_at (Some v.r) (less v.x 1) ∷ Some (corner v.r (v.x + 1)) ∷ [])
         ∙ (ap (λ (l : List Bool). tally l) (λ i. a i ∷ b i ∷ [])
-        ∙ (odd_square (is_edge_of R v (gap 0 1 1 1)) (is_edge_of R v (gap 1 0 0 0))
+        ∙ (odd_square (is_edge_of R v (dart 0 1 1 1)) (is_edge_of R v (dart 1 0 0 0))
         ∙ (sym (ap (λ (l : List Bool). tally l) (λ i. ga i ∷ gb i ∷ gc i ∷ gd i ∷ []))
-        ∙ sym (count_by-tally (counted R v) (gaps Square)))))
+        ∙ sym (count_by-tally (counted R v) (darts Square)))))
 
 triangle_steps : (R : Region) (v : Corner) → R.kind ≡ Triangle → is_corner Triangle v ≡ true
-    → length (filter (is_edge R v) (present (steps_out Triangle v))) ≡ count_by (counted R v) (gaps Triangle)
+    → length (filter (is_edge R v) (present (steps_out Triangle v))) ≡ count_by (counted R v) (darts Triangle)
 triangle_steps R v e h =
     let uneven : (v.r + v.x) % 2 ≡ 1 = eqb-true _ _ h in
-    let a = edge_at-kind R v Triangle (gap 1 2 1 1) (corner_at (less v.r 1) (less v.x 1)) e h (inl refl) (up_left v) in
-    let b = edge_at-kind R v Triangle (gap 1 0 0 0) (Some (corner v.r (v.x + 2))) e h (inr (inr (inl refl))) (along v) in
-    let c = edge_at-kind R v Triangle (gap 0 1 0 2) (corner_at (Some (v.r + 1)) (less v.x 1)) e h (inr (inr (inr (inr (inl refl))))) (down_left v) in
-    let ga = outward R v (gap 1 2 1 1) (omega (arith, uneven)) in
-    let gb = inward R v (gap 1 1 1 0) (omega (arith, uneven)) in
-    let gc = outward R v (gap 1 0 0 0) (omega (arith, uneven)) in
-    let gd = inward R v (gap 0 0 0 1) (omega (arith, uneven)) in
-    let ge = outward R v (gap 0 1 0 2) (omega (arith, uneven)) in
-    let gf = inward R v (gap 0 2 1 2) (omega (arith, uneven)) in
+    let a = edge_at-kind R v Triangle (dart 1 2 1 1) (corner_at (less v.r 1) (less v.x 1)) e h (inl refl) (up_left v) in
+    let b = edge_at-kind R v Triangle (dart 1 0 0 0) (Some (corner v.r (v.x + 2))) e h (inr (inr (inl refl))) (along v) in
+    let c = edge_at-kind R v Triangle (dart 0 1 0 2) (corner_at (Some (v.r + 1)) (less v.x 1)) e h (inr (inr (inr (inr (inl refl))))) (down_left v) in
+    let ga = outward R v (dart 1 2 1 1) (omega (arith, uneven)) in
+    let gb = inward R v (dart 1 1 1 0) (omega (arith, uneven)) in
+    let gc = outward R v (dart 1 0 0 0) (omega (arith, uneven)) in
+    let gd = inward R v (dart 0 0 0 1) (omega (arith, uneven)) in
+    let ge = outward R v (dart 0 1 0 2) (omega (arith, uneven)) in
+    let gf = inward R v (dart 0 2 1 2) (omega (arith, uneven)) in
     steps-tally R v (Some (corner v.r (v.x + 2)) ∷ corner_at (less v.r 1) (less v.x 1) ∷ corner_at (Some (v.r + 1)) (less v.x 1) ∷ [])
     ∙ (ap (λ (l : List Bool). tally l) (λ i. b i ∷ a i ∷ c i ∷ [])
-    ∙ (triangles (is_edge_of R v (gap 1 2 1 1)) (is_edge_of R v (gap 1 0 0 0)) (is_edge_of R v (gap 0 1 0 2))
+    ∙ (triangles (is_edge_of R v (dart 1 2 1 1)) (is_edge_of R v (dart 1 0 0 0)) (is_edge_of R v (dart 0 1 0 2))
     ∙ (sym (ap (λ (l : List Bool). tally l) (λ i. ga i ∷ gb i ∷ gc i ∷ gd i ∷ ge i ∷ gf i ∷ []))
-    ∙ sym (count_by-tally (counted R v) (gaps Triangle)))))
+    ∙ sym (count_by-tally (counted R v) (darts Triangle)))))
 
--- The directed steps from a corner are as many as its outward gaps along edges of the region.
+-- The directed steps from a corner are as many as its outward darts along edges of the region.
 pub steps-count : (R : Region) (v : Corner) → is_corner R.kind v ≡ true
-    → length (steps R v) ≡ count_by (λ g. is_outward v g && is_edge_of R v g) (gaps R.kind)
+    → length (steps R v) ≡ count_by (λ g. is_outward v g && is_edge_of R v g) (darts R.kind)
 steps-count R v h = go R.kind refl h
   where
-    go : (k : Kind) → R.kind ≡ k → is_corner k v ≡ true → length (filter (is_edge R v) (present (steps_out k v))) ≡ count_by (counted R v) (gaps k)
+    go : (k : Kind) → R.kind ≡ k → is_corner k v ≡ true → length (filter (is_edge R v) (present (steps_out k v))) ≡ count_by (counted R v) (darts k)
     go Square e c = square_steps R v e
     go Triangle e c = triangle_steps R v e c

@@ -7,7 +7,7 @@ use Rattle.tl_definitions.specs.declared.Kind.TheVariants.{Square, Triangle}
 use Rattle.tl_definitions.specs.declared.Corner.{Corner}
 use Rattle.tl_definitions.specs.Lattice.{cell_back, corner_eq, is_corner, ring, side}
 use Rattle.tl_definitions.specs.Region.{Region, has_at, is_inner, is_corner_of, boundary}
-use Rattle.tl_definitions.specs.Gaps.{gaps, left_cell, other_end, leaves}
+use Rattle.tl_definitions.specs.Darts.{darts, left_cell, other_end, leaves}
 use Rattle.tl_definitions.specs.Boundary.{is_boundary_corner}
 use Rattle.tl_definitions.proofs.CornerRings.{any-In, In-any_of, corner_eq-same, corner_eq-refl, is_corner_of-ring}
 use Rattle.tl_definitions.proofs.Turns.{every, every-at}
@@ -50,10 +50,10 @@ six a b c d e f =
     (every-at (λ x. every (λ y. every (λ z. every (λ w. last_fit x y z w)))) refl a) b) c) d) e) f
 
 ring_fits : (R : Region) (v : Corner)
-    → fits (list_any (λ g. has_at R (left_cell v g)) (gaps R.kind)) (list_any (leaves R v) (gaps R.kind)) (list_all (has_at R) (ring R.kind v)) ≡ true
+    → fits (list_any (λ g. has_at R (left_cell v g)) (darts R.kind)) (list_any (leaves R v) (darts R.kind)) (list_all (has_at R) (ring R.kind v)) ≡ true
 ring_fits R v = go R.kind
   where
-    go : (k : Kind) → fits (list_any (λ g. has_at R (left_cell v g)) (gaps k)) (list_any (leaves R v) (gaps k)) (list_all (has_at R) (ring k v)) ≡ true
+    go : (k : Kind) → fits (list_any (λ g. has_at R (left_cell v g)) (darts k)) (list_any (leaves R v) (darts k)) (list_all (has_at R) (ring k v)) ≡ true
     go Square = four (has_at R (cell_back v 1 1)) (has_at R (cell_back v 1 0)) (has_at R (cell_back v 0 0)) (has_at R (cell_back v 0 1))
     go Triangle =
         six (has_at R (cell_back v 1 2)) (has_at R (cell_back v 1 1)) (has_at R (cell_back v 1 0)) (has_at R (cell_back v 0 0)) (has_at R (cell_back v 0 1))
@@ -89,28 +89,28 @@ six_shuts a b c d e f =
     (every-at (λ y. every (λ z. every (λ w. last_shut a y z w)))
     (every-at (λ x. every (λ y. every (λ z. every (λ w. last_shut x y z w)))) refl a) b) c) d) e) f
 
-ring_shuts : (R : Region) (v : Corner) → shuts (list_all (has_at R) (ring R.kind v)) (list_any (leaves R v) (gaps R.kind)) ≡ true
+ring_shuts : (R : Region) (v : Corner) → shuts (list_all (has_at R) (ring R.kind v)) (list_any (leaves R v) (darts R.kind)) ≡ true
 ring_shuts R v = go R.kind
   where
-    go : (k : Kind) → shuts (list_all (has_at R) (ring k v)) (list_any (leaves R v) (gaps k)) ≡ true
+    go : (k : Kind) → shuts (list_all (has_at R) (ring k v)) (list_any (leaves R v) (darts k)) ≡ true
     go Square = four_shuts (has_at R (cell_back v 1 1)) (has_at R (cell_back v 1 0)) (has_at R (cell_back v 0 0)) (has_at R (cell_back v 0 1))
     go Triangle =
         six_shuts (has_at R (cell_back v 1 2)) (has_at R (cell_back v 1 1)) (has_at R (cell_back v 1 0)) (has_at R (cell_back v 0 0))
         (has_at R (cell_back v 0 1)) (has_at R (cell_back v 0 2))
 
-some_leaves : (R : Region) (v : Corner) → is_corner R.kind v ≡ true → list_any (leaves R v) (gaps R.kind) ≡ true → is_boundary_corner R v ≡ true
+some_leaves : (R : Region) (v : Corner) → is_corner R.kind v ≡ true → list_any (leaves R v) (darts R.kind) ≡ true → is_boundary_corner R v ≡ true
 some_leaves R v h e =
-    let (g, i, m) = any-In (leaves R v) (gaps R.kind) e in
+    let (g, i, m) = any-In (leaves R v) (darts R.kind) e in
     let (c, is, j) = leaves-side R v g h i m in
     In-any_of (λ s. corner_eq s.from v) (side c v (other_end R.kind v g)) (boundary R) j (corner_eq-refl v)
 
 -- each corner of the region is one of the two
 pub inner_or_boundary : (R : Region) (v : Corner) → is_corner R.kind v ≡ true → is_corner_of R v ≡ true → (is_inner R v ≡ true) ⊎ (is_boundary_corner R v ≡ true)
 inner_or_boundary R v h e =
-    go (list_any (leaves R v) (gaps R.kind)) refl (list_all (has_at R) (ring R.kind v)) refl
-    (subst (λ b. fits b (list_any (leaves R v) (gaps R.kind)) (list_all (has_at R) (ring R.kind v)) ≡ true) (sym (is_corner_of-ring R v h) ∙ e) (ring_fits R v))
+    go (list_any (leaves R v) (darts R.kind)) refl (list_all (has_at R) (ring R.kind v)) refl
+    (subst (λ b. fits b (list_any (leaves R v) (darts R.kind)) (list_all (has_at R) (ring R.kind v)) ≡ true) (sym (is_corner_of-ring R v h) ∙ e) (ring_fits R v))
   where
-    go : (l : Bool) → list_any (leaves R v) (gaps R.kind) ≡ l → (a : Bool) → list_all (has_at R) (ring R.kind v) ≡ a → fits true l a ≡ true
+    go : (l : Bool) → list_any (leaves R v) (darts R.kind) ≡ l → (a : Bool) → list_all (has_at R) (ring R.kind v) ≡ a → fits true l a ≡ true
         → (is_inner R v ≡ true) ⊎ (is_boundary_corner R v ≡ true)
     go true k a m f = inr (some_leaves R v h k)
     go false k true m f = inl (and_from _ _ h m)
@@ -121,9 +121,9 @@ pub not_inner_and_boundary : (R : Region) (v : Corner) → is_inner R v ≡ true
 not_inner_and_boundary R v e f =
     let (s, i, q) = any-In (λ s. corner_eq s.from v) (boundary R) f in
     let (g, l) = boundary-leaves R s i in
-    let left : list_any (leaves R v) (gaps R.kind) ≡ true =
-    In-any_of (leaves R v) g (gaps R.kind) l.gap (subst (λ z. leaves R z g ≡ true) (corner_eq-same s.from v q) (leaves-from R s g l)) in
+    let left : list_any (leaves R v) (darts R.kind) ≡ true =
+    In-any_of (leaves R v) g (darts R.kind) l.dart (subst (λ z. leaves R z g ≡ true) (corner_eq-same s.from v q) (leaves-from R s g l)) in
     let all : list_all (has_at R) (ring R.kind v) ≡ true = (and_parts (is_corner R.kind v) (list_all (has_at R) (ring R.kind v)) e).1 in
     let no : shuts true true ≡ true =
-    ap (shuts true) (sym left) ∙ (ap (λ (b : Bool). shuts b (list_any (leaves R v) (gaps R.kind))) (sym all) ∙ ring_shuts R v) in
+    ap (shuts true) (sym left) ∙ (ap (λ (b : Bool). shuts b (list_any (leaves R v) (darts R.kind))) (sym all) ∙ ring_shuts R v) in
     cc no

@@ -1,7 +1,7 @@
 pub mod Regions
 pub mod Joined
-pub mod Gaps
-pub mod GapSides
+pub mod Darts
+pub mod DartSides
 pub mod CornerRings
 pub mod EdgeCounts
 pub mod Turns

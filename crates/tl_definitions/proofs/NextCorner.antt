@@ -5,15 +5,15 @@ use Rattle.std.specs.List.{list_any}
 use Rattle.std.proofs.lemmas.Bool.{and_parts, and_from}
 use Rattle.tl_definitions.specs.declared.Cell.{Cell}
 use Rattle.tl_definitions.specs.declared.Corner.{Corner}
-use Rattle.tl_definitions.specs.declared.rings.Gap.{Gap}
+use Rattle.tl_definitions.specs.declared.rings.Dart.{Dart}
 use Rattle.tl_definitions.specs.Lattice.{cell, corner_eq, is_corner, Side, side}
 use Rattle.tl_definitions.specs.Region.{Region, has_at, boundary}
 use Rattle.tl_definitions.specs.Accepted.{is_pinch}
-use Rattle.tl_definitions.specs.Gaps.{gaps, left_cell, right_cell, other_end, leaves, enters}
+use Rattle.tl_definitions.specs.Darts.{darts, left_cell, right_cell, other_end, leaves, enters}
 use Rattle.tl_definitions.specs.Boundary.{side_from, is_boundary_corner}
 use Rattle.tl_definitions.proofs.Regions.{same_test}
 use Rattle.tl_definitions.proofs.Sublists.{In}
-use Rattle.tl_definitions.proofs.Gaps.{Lies, cell_back-lies}
+use Rattle.tl_definitions.proofs.Darts.{Lies, cell_back-lies}
 use Rattle.tl_definitions.proofs.Ordered.{find-only}
 use Rattle.tl_definitions.proofs.CornerRings.{any-In, In-any_of, corner_eq-same, corner_eq-refl, has_at-some, has-has_at}
 use Rattle.tl_definitions.proofs.Turns.{one_leaves, one_enters, leaves_where_enters, enters_where_leaves}
@@ -23,22 +23,22 @@ not_parts : (b : Bool) → not b ≡ true → b ≡ false
 not_parts true e = cc e
 not_parts false e = refl
 
--- the gap of a boundary side, as a test
-pub leaves-from : (R : Region) (s : Side) (g : Gap) → LeavesThrough R s g → leaves R s.from g ≡ true
+-- the dart of a boundary side, as a test
+pub leaves-from : (R : Region) (s : Side) (g : Dart) → LeavesThrough R s g → leaves R s.from g ≡ true
 leaves-from R s g l = and_from _ _ (has-has_at R (left_cell s.from g) s.cell l.cell l.inside) (ap not l.outside)
 
-pub enters-from : (R : Region) (s : Side) (g : Gap) → ComesThrough R s g → enters R s.to g ≡ true
+pub enters-from : (R : Region) (s : Side) (g : Dart) → ComesThrough R s g → enters R s.to g ≡ true
 enters-from R s g l = and_from _ _ (ap not l.outside) (has-has_at R (right_cell s.to g) s.cell l.cell l.inside)
 
--- and a boundary side from the test of its gap
-pub leaves-side : (R : Region) (v : Corner) (g : Gap) → is_corner R.kind v ≡ true → In g (gaps R.kind) → leaves R v g ≡ true
+-- and a boundary side from the test of its dart
+pub leaves-side : (R : Region) (v : Corner) (g : Dart) → is_corner R.kind v ≡ true → In g (darts R.kind) → leaves R v g ≡ true
     → (c : Cell) × (left_cell v g ≡ Some c) × In (side c v (other_end R.kind v g)) (boundary R)
 leaves-side R v g h i e =
     let p = and_parts (has_at R (left_cell v g)) (not (has_at R (right_cell v g))) e in
     let (c, is, in_R) = has_at-some R (left_cell v g) p.0 in
     (c, is, leaving_side R v g c h i is in_R (not_parts _ p.1))
 
-pub enters-side : (R : Region) (v : Corner) (g : Gap) → is_corner R.kind v ≡ true → In g (gaps R.kind) → enters R v g ≡ true
+pub enters-side : (R : Region) (v : Corner) (g : Dart) → is_corner R.kind v ≡ true → In g (darts R.kind) → enters R v g ≡ true
     → (c : Cell) × (right_cell v g ≡ Some c) × In (side c (other_end R.kind v g) v) (boundary R)
 enters-side R v g h i e =
     let p = and_parts (not (has_at R (left_cell v g))) (has_at R (right_cell v g)) e in
@@ -49,14 +49,14 @@ enters-side R v g h i e =
 pub side_after : (R : Region) (s : Side) → In s (boundary R) → (t : Side) × In t (boundary R) × (t.from ≡ s.to)
 side_after R s i =
     let (g, l) = boundary-comes R s i in
-    let (h, j, e) = leaves_where_enters R s.to g l.gap (enters-from R s g l) in
+    let (h, j, e) = leaves_where_enters R s.to g l.dart (enters-from R s g l) in
     let (c, is, k) = leaves-side R s.to h (boundary-corners R s i).1 j e in
     (side c s.to (other_end R.kind s.to h), k, refl)
 
 pub side_before : (R : Region) (s : Side) → In s (boundary R) → (t : Side) × In t (boundary R) × (t.to ≡ s.from)
 side_before R s i =
     let (g, l) = boundary-leaves R s i in
-    let (h, j, e) = enters_where_leaves R s.from g l.gap (leaves-from R s g l) in
+    let (h, j, e) = enters_where_leaves R s.from g l.dart (leaves-from R s g l) in
     let (c, is, k) = enters-side R s.from h (boundary-corners R s i).0 j e in
     (side c (other_end R.kind s.from h) s.from, k, refl)
 
@@ -71,7 +71,7 @@ pub one_side_from : (R : Region) (s t : Side) → is_pinch R s.from ≡ false �
 one_side_from R s t p i j e =
     let (g, l) = boundary-leaves R s i in
     let (h, m) = boundary-leaves R t j in
-    let same : h ≡ g = one_leaves R s.from h g p m.gap (subst (λ v. leaves R v h ≡ true) e (leaves-from R t h m)) l.gap (leaves-from R s g l) in
+    let same : h ≡ g = one_leaves R s.from h g p m.dart (subst (λ v. leaves R v h ≡ true) e (leaves-from R t h m)) l.dart (leaves-from R s g l) in
     let cells : left_cell s.from g ≡ Some t.cell = subst (λ d. left_cell s.from d ≡ Some t.cell) same (subst (λ v. left_cell v h ≡ Some t.cell) e m.cell) in
     let ends : t.to ≡ other_end R.kind s.from g = subst (λ d. t.to ≡ other_end R.kind s.from d) same (subst (λ v. t.to ≡ other_end R.kind v h) e m.ends) in
     same_side s t (some_cell s.cell t.cell (sym l.cell ∙ cells)) (sym e) (l.ends ∙ sym ends)
@@ -81,7 +81,7 @@ pub one_side_to : (R : Region) (s t : Side) → is_pinch R s.to ≡ false → In
 one_side_to R s t p i j e =
     let (g, l) = boundary-comes R s i in
     let (h, m) = boundary-comes R t j in
-    let same : h ≡ g = one_enters R s.to h g p m.gap (subst (λ v. enters R v h ≡ true) e (enters-from R t h m)) l.gap (enters-from R s g l) in
+    let same : h ≡ g = one_enters R s.to h g p m.dart (subst (λ v. enters R v h ≡ true) e (enters-from R t h m)) l.dart (enters-from R s g l) in
     let cells : right_cell s.to g ≡ Some t.cell = subst (λ d. right_cell s.to d ≡ Some t.cell) same (subst (λ v. right_cell v h ≡ Some t.cell) e m.cell) in
     let begins : t.from ≡ other_end R.kind s.to g = subst (λ d. t.from ≡ other_end R.kind s.to d) same (subst (λ v. t.from ≡ other_end R.kind v h) e m.begins) in
     same_side s t (some_cell s.cell t.cell (sym l.cell ∙ cells)) (l.begins ∙ sym begins) (sym e)
@@ -92,7 +92,7 @@ find_from R s p i =
     find-only (λ t. corner_eq t.from s.from) (boundary R) s i (corner_eq-refl s.from)
     (λ t j e. sym (one_side_from R s t p i j (corner_eq-same t.from s.from e)))
 
--- ---- the first gap that the boundary leaves by
+-- ---- the first dart that the boundary leaves by
 
 pub find-In : {A : Type 0} (p : A → Bool) (xs : List A) (x : A) → find p xs ≡ Some x → In x xs × (p x ≡ true)
 find-In p [] x e = cc e
@@ -125,26 +125,26 @@ none-find {A} p (y ∷ xs) f = go (p y) refl (none-find p xs (λ x i. f x (inr i
 pub find-none_any : {A : Type 0} (p : A → Bool) (xs : List A) → find p xs ≡ None → list_any p xs ≡ false
 find-none_any p xs e = same_test (list_any p xs) false (λ h. let (x, i, q) = any-In p xs h in absurd (find-none p xs e x i q)) (λ h. cc h)
 
--- it is the gap of the boundary side from the corner
-pub exit-side : (R : Region) (v : Corner) (g : Gap) → is_corner R.kind v ≡ true → is_pinch R v ≡ false → find (leaves R v) (gaps R.kind) ≡ Some g
+-- it is the dart of the boundary side from the corner
+pub exit-side : (R : Region) (v : Corner) (g : Dart) → is_corner R.kind v ≡ true → is_pinch R v ≡ false → find (leaves R v) (darts R.kind) ≡ Some g
     → (c : Cell) × Lies v g.left c × (side_from R v ≡ Some (side c v (other_end R.kind v g)))
 exit-side R v g h p e =
-    let q = find-In (leaves R v) (gaps R.kind) g e in
+    let q = find-In (leaves R v) (darts R.kind) g e in
     let (c, is, i) = leaves-side R v g h q.0 q.1 in
     (c, cell_back-lies v g.left c is, find_from R (side c v (other_end R.kind v g)) p i)
 
-pub no_exit-side : (R : Region) (v : Corner) → find (leaves R v) (gaps R.kind) ≡ None → side_from R v ≡ None
+pub no_exit-side : (R : Region) (v : Corner) → find (leaves R v) (darts R.kind) ≡ None → side_from R v ≡ None
 no_exit-side R v e =
     none-find (λ s. corner_eq s.from v) (boundary R)
     (λ s i q.
     let (g, l) = boundary-leaves R s i in
-    find-none (leaves R v) (gaps R.kind) e g l.gap (subst (λ z. leaves R z g ≡ true) (corner_eq-same s.from v q) (leaves-from R s g l)))
+    find-none (leaves R v) (darts R.kind) e g l.dart (subst (λ z. leaves R z g ≡ true) (corner_eq-same s.from v q) (leaves-from R s g l)))
 
--- a corner is a boundary corner exactly where there is such a gap
-pub boundary_corner-exit : (R : Region) (v : Corner) → is_corner R.kind v ≡ true → is_boundary_corner R v ≡ is_some (find (leaves R v) (gaps R.kind))
-boundary_corner-exit R v h = go (find (leaves R v) (gaps R.kind)) refl
+-- a corner is a boundary corner exactly where there is such a dart
+pub boundary_corner-exit : (R : Region) (v : Corner) → is_corner R.kind v ≡ true → is_boundary_corner R v ≡ is_some (find (leaves R v) (darts R.kind))
+boundary_corner-exit R v h = go (find (leaves R v) (darts R.kind)) refl
   where
-    go : (o : Option Gap) → find (leaves R v) (gaps R.kind) ≡ o → is_boundary_corner R v ≡ is_some o
+    go : (o : Option Dart) → find (leaves R v) (darts R.kind) ≡ o → is_boundary_corner R v ≡ is_some o
     go None e =
         same_test (is_boundary_corner R v) false
         (λ m.
@@ -152,24 +152,24 @@ boundary_corner-exit R v h = go (find (leaves R v) (gaps R.kind)) refl
         absurd (find-none (λ s. corner_eq s.from v) (boundary R) (no_exit-side R v e) s i q))
         (λ f. cc f)
     go (Some g) e =
-        let q = find-In (leaves R v) (gaps R.kind) g e in
+        let q = find-In (leaves R v) (darts R.kind) g e in
         let (c, is, i) = leaves-side R v g h q.0 q.1 in
         In-any_of (λ s. corner_eq s.from v) (side c v (other_end R.kind v g)) (boundary R) i (corner_eq-refl v)
 
-lies-cell : (v : Corner) (g : Gap) (c : Cell) → Lies v g.left c → c ≡ cell (v.r - g.left.rows) (v.x - g.left.columns)
+lies-cell : (v : Corner) (g : Dart) (c : Cell) → Lies v g.left c → c ≡ cell (v.r - g.left.rows) (v.x - g.left.columns)
 lies-cell v g c l =
     let rows : c.r ≡ v.r - g.left.rows = omega (arith, l.row) in
     let columns : c.c ≡ v.x - g.left.columns = omega (arith, l.column) in
     λ i. record { r = rows i; c = columns i }
 
 -- the cell of the boundary side, by its place
-pub exit-lies : (R : Region) (v : Corner) (g : Gap) → is_corner R.kind v ≡ true → is_pinch R v ≡ false → find (leaves R v) (gaps R.kind) ≡ Some g
+pub exit-lies : (R : Region) (v : Corner) (g : Dart) → is_corner R.kind v ≡ true → is_pinch R v ≡ false → find (leaves R v) (darts R.kind) ≡ Some g
     → (g.left.rows ≤ v.r) × (g.left.columns ≤ v.x)
 exit-lies R v g h p e =
     let (c, l, is) = exit-side R v g h p e in
     (omega (arith, l.row), omega (arith, l.column))
 
-pub exit-from : (R : Region) (v : Corner) (g : Gap) → is_corner R.kind v ≡ true → is_pinch R v ≡ false → find (leaves R v) (gaps R.kind) ≡ Some g
+pub exit-from : (R : Region) (v : Corner) (g : Dart) → is_corner R.kind v ≡ true → is_pinch R v ≡ false → find (leaves R v) (darts R.kind) ≡ Some g
     → Some (side (cell (v.r - g.left.rows) (v.x - g.left.columns)) v (other_end R.kind v g)) ≡ side_from R v
 exit-from R v g h p e =
     let (c, l, is) = exit-side R v g h p e in

@@ -5,21 +5,21 @@ use Rattle.std.specs.Prelude.{◌==◌, count_by, zip, map}
 use Rattle.tl_definitions.specs.declared.Kind.{Kind}
 use Rattle.tl_definitions.specs.declared.Kind.TheVariants.{Square, Triangle}
 use Rattle.tl_definitions.specs.declared.Corner.{Corner}
-use Rattle.tl_definitions.specs.declared.rings.Gap.{Gap}
+use Rattle.tl_definitions.specs.declared.rings.Dart.{Dart}
 use Rattle.tl_definitions.specs.Lattice.{cell_back, ring}
 use Rattle.tl_definitions.specs.Region.{Region, has_at}
 use Rattle.tl_definitions.specs.Accepted.{runs, is_pinch, turned}
-use Rattle.tl_definitions.specs.Gaps.{gaps, leaves, enters}
+use Rattle.tl_definitions.specs.Darts.{darts, leaves, enters}
 use Rattle.tl_definitions.proofs.Sublists.{In}
 use Rattle.tl_definitions.proofs.Ordered.{count_by-fails, count_zero, only-count_by}
 use Rattle.tl_definitions.proofs.CornerRings.{any-In}
 use Rattle.std.proofs.lemmas.Bool.{and_parts, or_parts, eqb-true, leb-false}
 
--- The runs round a corner are as many as the gaps by which the boundary comes to it.
-pub runs-enters : (R : Region) (v : Corner) → runs R v ≡ count_by (enters R v) (gaps R.kind)
+-- The runs round a corner are as many as the darts along which the boundary comes to it.
+pub runs-enters : (R : Region) (v : Corner) → runs R v ≡ count_by (enters R v) (darts R.kind)
 runs-enters R v = go R.kind
   where
-    go : (k : Kind) → (let inside = map (has_at R) (ring k v) in count_by (λ p. not p.0 && p.1) (zip inside (turned inside))) ≡ count_by (enters R v) (gaps k)
+    go : (k : Kind) → (let inside = map (has_at R) (ring k v) in count_by (λ p. not p.0 && p.1) (zip inside (turned inside))) ≡ count_by (enters R v) (darts k)
     go Square = refl
     go Triangle = refl
 
@@ -70,10 +70,10 @@ six a b c d e f =
     (every-at (λ x. every (λ y. every (λ z. every (λ w. balanced_last x y z w)))) refl a) b) c) d) e) f
 
 -- At each corner the boundary leaves as often as it comes.
-pub leaves-enters : (R : Region) (v : Corner) → count_by (leaves R v) (gaps R.kind) ≡ count_by (enters R v) (gaps R.kind)
+pub leaves-enters : (R : Region) (v : Corner) → count_by (leaves R v) (darts R.kind) ≡ count_by (enters R v) (darts R.kind)
 leaves-enters R v = go R.kind
   where
-    go : (k : Kind) → count_by (leaves R v) (gaps k) ≡ count_by (enters R v) (gaps k)
+    go : (k : Kind) → count_by (leaves R v) (darts k) ≡ count_by (enters R v) (darts k)
     go Square = eqb-true _ _ (four (has_at R (cell_back v 1 1)) (has_at R (cell_back v 1 0)) (has_at R (cell_back v 0 0)) (has_at R (cell_back v 0 1)))
     go Triangle =
         eqb-true _ _
@@ -93,16 +93,16 @@ same_of_one p xs x y h i e j f =
     let (t, o) = only-count_by p xs (passes_once p xs x h i e) in
     o.only x i e ∙ sym (o.only y j f)
 
-few_enter : (R : Region) (v : Corner) → is_pinch R v ≡ false → count_by (enters R v) (gaps R.kind) ≤ 1
+few_enter : (R : Region) (v : Corner) → is_pinch R v ≡ false → count_by (enters R v) (darts R.kind) ≤ 1
 few_enter R v e =
     let few : runs R v < 2 = leb-false 2 (runs R v) e in
     omega (arith, few, runs-enters R v)
 
-pub one_leaves : (R : Region) (v : Corner) (g h : Gap) → is_pinch R v ≡ false → In g (gaps R.kind) → leaves R v g ≡ true → In h (gaps R.kind) → leaves R v h ≡ true → g ≡ h
-one_leaves R v g h e = same_of_one (leaves R v) (gaps R.kind) g h (omega (arith, few_enter R v e, leaves-enters R v))
+pub one_leaves : (R : Region) (v : Corner) (g h : Dart) → is_pinch R v ≡ false → In g (darts R.kind) → leaves R v g ≡ true → In h (darts R.kind) → leaves R v h ≡ true → g ≡ h
+one_leaves R v g h e = same_of_one (leaves R v) (darts R.kind) g h (omega (arith, few_enter R v e, leaves-enters R v))
 
-pub one_enters : (R : Region) (v : Corner) (g h : Gap) → is_pinch R v ≡ false → In g (gaps R.kind) → enters R v g ≡ true → In h (gaps R.kind) → enters R v h ≡ true → g ≡ h
-one_enters R v g h e = same_of_one (enters R v) (gaps R.kind) g h (few_enter R v e)
+pub one_enters : (R : Region) (v : Corner) (g h : Dart) → is_pinch R v ≡ false → In g (darts R.kind) → enters R v g ≡ true → In h (darts R.kind) → enters R v h ≡ true → g ≡ h
+one_enters R v g h e = same_of_one (enters R v) (darts R.kind) g h (few_enter R v e)
 
 -- where the boundary comes to a corner, it leaves it, and the other way round
 some_passes : {A : Type 0} (p : A → Bool) (xs : List A) → count_by p xs ≢ 0 → (x : A) × In x xs × (p x ≡ true)
@@ -118,10 +118,10 @@ some_passes {A} p xs h = go (list_any p xs) refl
             let q : (p y ≡ false) × (list_any p ys ≡ false) = or_parts (p y) (list_any p ys) f in
             count_by-fails p y ys q.0 ∙ none ys q.1
 
-pub leaves_where_enters : (R : Region) (v : Corner) (g : Gap) → In g (gaps R.kind) → enters R v g ≡ true → (h : Gap) × In h (gaps R.kind) × (leaves R v h ≡ true)
+pub leaves_where_enters : (R : Region) (v : Corner) (g : Dart) → In g (darts R.kind) → enters R v g ≡ true → (h : Dart) × In h (darts R.kind) × (leaves R v h ≡ true)
 leaves_where_enters R v g i e =
-    some_passes (leaves R v) (gaps R.kind) (λ z. count_zero (enters R v) (gaps R.kind) g (sym (leaves-enters R v) ∙ z) i e)
+    some_passes (leaves R v) (darts R.kind) (λ z. count_zero (enters R v) (darts R.kind) g (sym (leaves-enters R v) ∙ z) i e)
 
-pub enters_where_leaves : (R : Region) (v : Corner) (g : Gap) → In g (gaps R.kind) → leaves R v g ≡ true → (h : Gap) × In h (gaps R.kind) × (enters R v h ≡ true)
+pub enters_where_leaves : (R : Region) (v : Corner) (g : Dart) → In g (darts R.kind) → leaves R v g ≡ true → (h : Dart) × In h (darts R.kind) × (enters R v h ≡ true)
 enters_where_leaves R v g i e =
-    some_passes (enters R v) (gaps R.kind) (λ z. count_zero (leaves R v) (gaps R.kind) g (leaves-enters R v ∙ z) i e)
+    some_passes (enters R v) (darts R.kind) (λ z. count_zero (leaves R v) (darts R.kind) g (leaves-enters R v ∙ z) i e)

@@ -18,5 +18,5 @@ pub mod Chain
 pub mod Heights
 pub mod Border
 pub mod Board
-pub mod Gaps
+pub mod Darts
 pub mod Boundary

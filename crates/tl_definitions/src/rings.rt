@@ -7,10 +7,10 @@ pub struct Back {
     pub columns: u32,
 }
 
-/// The edge from a corner between two consecutive cells of its ring, clockwise: seen from the corner the
-/// first lies to the left of the edge, and the second to its right.
+/// A dart of a corner: an edge that ends there, between two consecutive cells of its ring, the one on the
+/// left as seen from the corner first.
 #[derive(Clone, Copy)]
-pub struct Gap {
+pub struct Dart {
     pub left: Back,
     pub right: Back,
 }

@@ -7,19 +7,19 @@ use Rattle.std.proofs.lemmas.List.Sums.{count_by-le-length}
 use Rattle.tl_definitions.specs.declared.Kind.{Kind}
 use Rattle.tl_definitions.specs.declared.Kind.TheVariants.{Square, Triangle}
 use Rattle.tl_definitions.specs.declared.Corner.{Corner}
-use Rattle.tl_definitions.specs.declared.rings.Gap.{Gap}
+use Rattle.tl_definitions.specs.declared.rings.Dart.{Dart}
 use Rattle.tl_definitions.specs.Lattice.{corner, is_corner}
 use Rattle.tl_definitions.specs.Region.{Region, has_at, is_corner_of, steps}
 use Rattle.tl_definitions.specs.Accepted.{corner_count, edge_count}
-use Rattle.tl_definitions.specs.Gaps.{gaps, left_cell, is_outward, is_edge_of}
+use Rattle.tl_definitions.specs.Darts.{darts, left_cell, is_outward, is_edge_of}
 use Rattle.tl_definitions.proofs.CornerRings.{is_corner_of-ring}
 use Rattle.tl_definitions.proofs.EdgeCounts.{steps-count}
 use Rattle.tl_grid.proofs.CornerScans.{rows_from, corners_from, rows_from-all, rows_from-none, rows_from-row, corners_from-end, corners_from-corner, corners_from-skip}
 
-pub few_gaps : (k : Kind) (p : Gap → Bool) → count_by p (gaps k) ≤ 6
-few_gaps k p = omega (arith, count_by-le-length p (gaps k), few k)
+pub few_darts : (k : Kind) (p : Dart → Bool) → count_by p (darts k) ≤ 6
+few_darts k p = omega (arith, count_by-le-length p (darts k), few k)
   where
-    few : (k : Kind) → length (gaps k) ≤ 6
+    few : (k : Kind) → length (darts k) ≤ 6
     few Square = omega arith
     few Triangle = omega arith
 
@@ -43,8 +43,8 @@ counted-skip R corners edges r x h c a = subst (AreCounted R corners edges) (cor
 
 -- a corner place more
 pub counted-corner : (R : Region) (corners edges r x more steps_here : ℕ) (touches : Bool) → x < R.columns + 2 → is_corner R.kind (corner r x) ≡ true
-    → touches ≡ list_any (λ g. has_at R (left_cell (corner r x) g)) (gaps R.kind) → more ≡ corners + cond touches 1 0
-    → steps_here ≡ count_by (λ g. is_outward (corner r x) g && is_edge_of R (corner r x) g) (gaps R.kind)
+    → touches ≡ list_any (λ g. has_at R (left_cell (corner r x) g)) (darts R.kind) → more ≡ corners + cond touches 1 0
+    → steps_here ≡ count_by (λ g. is_outward (corner r x) g && is_edge_of R (corner r x) g) (darts R.kind)
     → AreCounted R corners edges (corners_from R r x) → AreCounted R more (edges + steps_here) (corners_from R r (x + 1))
 counted-corner R corners edges r x more steps_here touches h c t m s a =
     let v : Corner = corner r x in

@@ -12,7 +12,7 @@ use Rattle.tl_definitions.specs.Lattice.{corner_eq}
 use Rattle.tl_definitions.specs.Region.{Region}
 use Rattle.tl_definitions.proofs.Regions.{same_test, nat_cases}
 use Rattle.tl_definitions.proofs.CornerRings.{corner_eq-same, corner_eq-refl}
-use Rattle.tl_definitions.proofs.Gaps.{corner-same}
+use Rattle.tl_definitions.proofs.Darts.{corner-same}
 use Rattle.tl_grid.specs.declared.corner_marks.CornerMarks.{CornerMarks}
 use Rattle.tl_grid.specs.CornerMarks.{is_marked, FitMarks, AreMarked}
 

@@ -5,7 +5,7 @@ ghost use Rattle.std.specs.List.{list_any};
 ghost use Rattle.tl_definitions.specs.Lattice.{is_corner as is_corner_of_kind, Side};
 ghost use Rattle.tl_definitions.specs.Region.{corner_places};
 ghost use Rattle.tl_definitions.specs.Accepted.{is_pinch, circuit_corners, IsCircuit};
-ghost use Rattle.tl_definitions.specs.Gaps.{other_end as other_end_of};
+ghost use Rattle.tl_definitions.specs.Darts.{other_end as other_end_of};
 ghost use Rattle.tl_definitions.specs.Boundary.{side_from, is_boundary_corner as is_boundary_corner_of, IsClosedWalk};
 ghost use Rattle.tl_grid.specs.Grid.{IsKept};
 ghost use Rattle.tl_grid.specs.Sides.{side_of};
@@ -15,7 +15,7 @@ use crate::corner_marks::CornerMarks;
 use crate::grid::Grid;
 use crate::rings::{first_exit, is_corner};
 use std::alloc::{AllocError, Global};
-use tl_definitions::Gap;
+use tl_definitions::Dart;
 use tl_lattice::{Cell, Corner, Kind};
 
 /// A side of a cell that is a side of no other cell of the region, in the direction that has the region on its left.
@@ -26,17 +26,17 @@ pub struct BoundarySide {
     pub to: Corner,
 }
 
-// The other end of the edge by the gap.
-fn other_end(kind: Kind, corner: Corner, gap: Gap) -> Corner
+// The other end of the dart.
+fn other_end(kind: Kind, corner: Corner, dart: Dart) -> Corner
     requires row { corner.r ≤ 2 ^ 20 }
     requires column { corner.x ≤ 2 ^ 20 }
-    ensures { result ≡ other_end_of kind corner gap }
+    ensures { result ≡ other_end_of kind corner dart }
 {
     let width = match kind {
         Kind::Square => 1,
         Kind::Triangle => 2,
     };
-    let Gap { left, right } = gap;
+    let Dart { left, right } = dart;
     Corner {
         r: (corner.r + 1)
             .saturating_sub(left.rows)
@@ -55,16 +55,16 @@ pub fn side_out(grid: &Grid, corner: Corner) -> Option<BoundarySide>
     requires no_pinch { IsFalse (is_pinch grid.now corner) }
     ensures { option_map side_of result ≡ side_from grid.now corner }
 {
-    let Some(gap) = first_exit(grid, corner) else {
+    let Some(dart) = first_exit(grid, corner) else {
         return None;
     };
     Some(BoundarySide {
         cell: Cell {
-            r: corner.r - gap.left.rows,
-            c: corner.x - gap.left.columns,
+            r: corner.r - dart.left.rows,
+            c: corner.x - dart.left.columns,
         },
         from: corner,
-        to: other_end(grid.kind(), corner, gap),
+        to: other_end(grid.kind(), corner, dart),
     })
 }
 

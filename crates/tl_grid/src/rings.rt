@@ -4,10 +4,10 @@ ghost use Rattle.std.specs.Prelude.{◌≡◌, ◌&&◌, count_by, find};
 ghost use Rattle.std.specs.List.{list_any};
 ghost use Rattle.tl_definitions.specs.Lattice.{is_corner as is_corner_of_kind, cell_back};
 ghost use Rattle.tl_definitions.specs.Region.{has_at};
-ghost use Rattle.tl_definitions.specs.Gaps.{gaps as gaps_of, left_cell, right_cell, enters as enters_by, leaves as leaves_by, is_outward as is_outward_of, is_edge_of};
+ghost use Rattle.tl_definitions.specs.Darts.{darts as darts_of, left_cell, right_cell, enters as enters_by, leaves as leaves_by, is_outward as is_outward_of, is_edge_of};
 
 use crate::grid::Grid;
-use tl_definitions::{Back, Gap};
+use tl_definitions::{Back, Dart};
 use tl_lattice::{Cell, Corner, Kind};
 
 // The places of a ring: in the row above the corner and in its own row, so many columns back.
@@ -41,55 +41,55 @@ const BELOW_2: Back = Back {
     columns: 2,
 };
 
-static SQUARE: [Gap; 4] = [
-    Gap {
+static SQUARE: [Dart; 4] = [
+    Dart {
         left: ABOVE_1,
         right: ABOVE_0,
     },
-    Gap {
+    Dart {
         left: ABOVE_0,
         right: BELOW_0,
     },
-    Gap {
+    Dart {
         left: BELOW_0,
         right: BELOW_1,
     },
-    Gap {
+    Dart {
         left: BELOW_1,
         right: ABOVE_1,
     },
 ];
 
-static TRIANGLE: [Gap; 6] = [
-    Gap {
+static TRIANGLE: [Dart; 6] = [
+    Dart {
         left: ABOVE_2,
         right: ABOVE_1,
     },
-    Gap {
+    Dart {
         left: ABOVE_1,
         right: ABOVE_0,
     },
-    Gap {
+    Dart {
         left: ABOVE_0,
         right: BELOW_0,
     },
-    Gap {
+    Dart {
         left: BELOW_0,
         right: BELOW_1,
     },
-    Gap {
+    Dart {
         left: BELOW_1,
         right: BELOW_2,
     },
-    Gap {
+    Dart {
         left: BELOW_2,
         right: ABOVE_2,
     },
 ];
 
-/// The gaps of a ring, clockwise.
-pub fn gaps(kind: Kind) -> &'static [Gap]
-    ensures { result.now ≡ gaps_of kind }
+/// The darts of a ring, clockwise.
+pub fn darts(kind: Kind) -> &'static [Dart]
+    ensures { result.now ≡ darts_of kind }
 {
     match kind {
         Kind::Square => &SQUARE,
@@ -120,70 +120,70 @@ fn is_inside(grid: &Grid, corner: Corner, place: Back) -> bool
     })
 }
 
-// Whether the boundary comes to the corner by the gap, with the region on its left.
-fn enters(grid: &Grid, corner: Corner, gap: Gap) -> bool
-    ensures { result ≡ enters_by grid.now corner gap }
+// Whether the boundary comes to the corner along the dart, with the region on its left.
+fn enters(grid: &Grid, corner: Corner, dart: Dart) -> bool
+    ensures { result ≡ enters_by grid.now corner dart }
 {
-    !is_inside(grid, corner, gap.left) && is_inside(grid, corner, gap.right)
+    !is_inside(grid, corner, dart.left) && is_inside(grid, corner, dart.right)
 }
 
-/// By how many gaps the boundary comes to the corner.
+/// Along how many darts the boundary comes to the corner.
 pub fn entry_count(grid: &Grid, corner: Corner) -> usize
-    ensures { result ≡ count_by (enters_by grid.now corner) (gaps_of grid.now.kind) }
+    ensures { result ≡ count_by (enters_by grid.now corner) (darts_of grid.now.kind) }
 {
-    gaps(grid.kind())
+    darts(grid.kind())
         .iter()
-        .filter(|gap| enters(grid, corner, **gap))
+        .filter(|dart| enters(grid, corner, **dart))
         .count()
 }
 
-// Whether the boundary leaves the corner by the gap, with the region on its left.
-fn leaves(grid: &Grid, corner: Corner, gap: Gap) -> bool
-    ensures { result ≡ leaves_by grid.now corner gap }
+// Whether the boundary leaves the corner along the dart, with the region on its left.
+fn leaves(grid: &Grid, corner: Corner, dart: Dart) -> bool
+    ensures { result ≡ leaves_by grid.now corner dart }
 {
-    is_inside(grid, corner, gap.left) && !is_inside(grid, corner, gap.right)
+    is_inside(grid, corner, dart.left) && !is_inside(grid, corner, dart.right)
 }
 
-/// The first gap by which the boundary leaves the corner.
-pub fn first_exit(grid: &Grid, corner: Corner) -> Option<Gap>
-    ensures { result ≡ find (leaves_by grid.now corner) (gaps_of grid.now.kind) }
+/// The first dart along which the boundary leaves the corner.
+pub fn first_exit(grid: &Grid, corner: Corner) -> Option<Dart>
+    ensures { result ≡ find (leaves_by grid.now corner) (darts_of grid.now.kind) }
 {
-    gaps(grid.kind())
+    darts(grid.kind())
         .iter()
-        .find(|gap| leaves(grid, corner, **gap))
+        .find(|dart| leaves(grid, corner, **dart))
         .copied()
 }
 
 /// Whether a cell of the corner's ring is in the region.
 pub fn touches(grid: &Grid, corner: Corner) -> bool
-    ensures { result ≡ list_any (λ g. has_at grid.now (left_cell corner g)) (gaps_of grid.now.kind) }
+    ensures { result ≡ list_any (λ g. has_at grid.now (left_cell corner g)) (darts_of grid.now.kind) }
 {
-    gaps(grid.kind())
+    darts(grid.kind())
         .iter()
-        .any(|gap| is_inside(grid, corner, gap.left))
+        .any(|dart| is_inside(grid, corner, dart.left))
 }
 
-// Whether the edge by the gap is that of a directed step from the corner.
-fn is_outward(corner: Corner, gap: Gap) -> bool
-    ensures { result ≡ is_outward_of corner gap }
+// Whether the dart is the edge of a directed step from the corner.
+fn is_outward(corner: Corner, dart: Dart) -> bool
+    ensures { result ≡ is_outward_of corner dart }
 {
-    let rows = u64::from(corner.r) + u64::from(gap.left.rows);
-    let columns = u64::from(corner.x) + u64::from(gap.left.columns);
+    let rows = u64::from(corner.r) + u64::from(dart.left.rows);
+    let columns = u64::from(corner.x) + u64::from(dart.left.columns);
     (rows + columns) % 2 == 0
 }
 
-fn is_edge(grid: &Grid, corner: Corner, gap: Gap) -> bool
-    ensures { result ≡ is_edge_of grid.now corner gap }
+fn is_edge(grid: &Grid, corner: Corner, dart: Dart) -> bool
+    ensures { result ≡ is_edge_of grid.now corner dart }
 {
-    is_inside(grid, corner, gap.left) || is_inside(grid, corner, gap.right)
+    is_inside(grid, corner, dart.left) || is_inside(grid, corner, dart.right)
 }
 
 /// How many directed steps along edges of the region go out from the corner.
 pub fn step_count(grid: &Grid, corner: Corner) -> usize
-    ensures { result ≡ count_by (λ g. is_outward_of corner g && is_edge_of grid.now corner g) (gaps_of grid.now.kind) }
+    ensures { result ≡ count_by (λ g. is_outward_of corner g && is_edge_of grid.now corner g) (darts_of grid.now.kind) }
 {
-    gaps(grid.kind())
+    darts(grid.kind())
         .iter()
-        .filter(|gap| is_outward(corner, **gap) && is_edge(grid, corner, **gap))
+        .filter(|dart| is_outward(corner, **dart) && is_edge(grid, corner, **dart))
         .count()
 }

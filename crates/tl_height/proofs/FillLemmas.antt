@@ -15,7 +15,7 @@ use Rattle.tl_definitions.specs.declared.Tile.{Tile}
 use Rattle.tl_definitions.specs.Lattice.{cell, corner, corner_eq, is_cell}
 use Rattle.tl_definitions.specs.Region.{Region, is_inner}
 use Rattle.tl_definitions.specs.Accepted.{Accepted}
-use Rattle.tl_definitions.specs.Gaps.{cell_width}
+use Rattle.tl_definitions.specs.Darts.{cell_width}
 use Rattle.tl_definitions.specs.Tiling.{is_tiling, partner}
 use Rattle.tl_definitions.specs.Heights.{rise, height, AreHeights}
 use Rattle.tl_definitions.proofs.Regions.{same_test}

@@ -4,7 +4,7 @@ ghost use Rattle.std.specs.Prelude.{◌≡◌, ◌+◌, ◌-◌, ◌*◌, ◌<�
 ghost use Rattle.tl_definitions.specs.Lattice.{corner as corner_of};
 ghost use Rattle.tl_definitions.specs.Region.{is_inner};
 ghost use Rattle.tl_definitions.specs.Accepted.{Accepted, IsCircuit};
-ghost use Rattle.tl_definitions.specs.Gaps.{cell_width as width_of};
+ghost use Rattle.tl_definitions.specs.Darts.{cell_width as width_of};
 ghost use Rattle.tl_definitions.specs.Heights.{height as height_of, AreHeights, AreLawful};
 ghost use Rattle.tl_grid.specs.Grid.{IsKept};
 

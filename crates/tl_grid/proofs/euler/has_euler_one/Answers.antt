@@ -2,9 +2,9 @@ use Rattle.std.proofs.Common.{◌≡◌, ◌+◌, ◌≤◌, cond, sym, ◌∙�
 use Rattle.std.proofs.lemmas.Bool.{eqb-true, eq-eqb}
 use Rattle.std.specs.Prelude.{◌&&◌}
 use Rattle.tl_definitions.specs.Lattice.{corner}
-use Rattle.tl_definitions.specs.Gaps.{is_outward, is_edge_of}
+use Rattle.tl_definitions.specs.Darts.{is_outward, is_edge_of}
 use Rattle.tl_grid.proofs.CornerScans.{corners_from}
-use Rattle.tl_grid.proofs.EulerCounts.{AreCounted, few_gaps, counted-none, counted-row, counted-row_end, counted-skip, counted-corner, counted-all, more-yes, more-no}
+use Rattle.tl_grid.proofs.EulerCounts.{AreCounted, few_darts, counted-none, counted-row, counted-row_end, counted-skip, counted-corner, counted-all, more-yes, more-no}
 use Rattle.tl_grid.proofs.euler.has_euler_one.Goals as goal
 use Rattle.tl_grid.proofs.euler.has_euler_one.Goals.{then-is_corner, then-touches, else-touches, else-is_corner}
 
@@ -29,7 +29,7 @@ loop-x-preserved c =
             | else-touches u ↦ more-no w.touches.result c.if-is_corner.corners c.loop-x.corners (cc) (w.corners-is ∙ u.corners-is)
           ] in
           let few : w.step_count-edges.result ≤ 6 =
-          subst (λ n. n ≤ 6) (sym w.step_count-edges.ensures) (few_gaps R.kind (λ g. is_outward (corner c.loop-r.r c.loop-x.x) g && is_edge_of R (corner c.loop-r.r c.loop-x.x) g)) in
+          subst (λ n. n ≤ 6) (sym w.step_count-edges.ensures) (few_darts R.kind (λ g. is_outward (corner c.loop-r.r c.loop-x.x) g && is_edge_of R (corner c.loop-r.r c.loop-x.x) g)) in
           record {
             counted =
                 subst (λ n. AreCounted R c.if-is_corner.corners n (corners_from R c.loop-r.r (c.loop-x.x + 1))) (sym w.edges-is)

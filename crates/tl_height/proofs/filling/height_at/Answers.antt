@@ -5,7 +5,7 @@ use Rattle.tl_definitions.specs.Region.{Region, is_inner, inner_corners}
 use Rattle.tl_definitions.specs.Accepted.{IsPlaced, circuit_corners}
 use Rattle.tl_definitions.specs.declared.Corner.{Corner}
 use Rattle.tl_definitions.specs.declared.Tile.{Tile}
-use Rattle.tl_definitions.specs.Gaps.{cell_width}
+use Rattle.tl_definitions.specs.Darts.{cell_width}
 use Rattle.tl_definitions.specs.Heights.{height, AreHeights}
 use Rattle.tl_definitions.proofs.InnerNumbers.{is_some-number}
 use Rattle.tl_closing.proofs.Heights.{has-heights}

@@ -1,4 +1,4 @@
--- The sides of a cell are gaps of the rings of their ends.
+-- The sides of a cell are darts of the rings of their ends.
 use Rattle.std.proofs.Common.{◌≡◌, ℕ, ◌+◌, ◌-◌, ◌%◌, inl, inr, Bool, true, false, [], ◌∷◌, cond, Option, Some, None, refl, ap, arith}
 use Rattle.std.specs.Prelude.{nat_lt, ◌==◌, ◌&&◌, ◌||◌, not}
 use Rattle.std.specs.List.{list_all}
@@ -8,9 +8,9 @@ use Rattle.tl_definitions.specs.declared.Kind.TheVariants.{Square, Triangle}
 use Rattle.tl_definitions.specs.declared.Cell.{Cell}
 use Rattle.tl_definitions.specs.declared.Corner.{Corner}
 use Rattle.tl_definitions.specs.declared.rings.Back.{Back}
-use Rattle.tl_definitions.specs.declared.rings.Gap.{Gap}
+use Rattle.tl_definitions.specs.declared.rings.Dart.{Dart}
 use Rattle.tl_definitions.specs.Lattice.{cell, corner, cell_at, cell_back, less, is_corner, is_dark, sides, Side, side}
-use Rattle.tl_definitions.specs.Gaps.{gaps, cell_width, other_end}
+use Rattle.tl_definitions.specs.Darts.{darts, cell_width, other_end}
 use Rattle.tl_definitions.proofs.Sublists.{In, Each, Each-at}
 use Rattle.tl_definitions.proofs.Ordered.{In-list_all}
 
@@ -52,23 +52,23 @@ lies-cell_back v b c l =
     rw (less-of v.r b.rows c.r l.row, less-of v.x b.columns c.c l.column) refl
 
 -- the two ends of an edge
-pub record IsEnd (k : Kind) (v : Corner) (g : Gap) (w : Corner) : Type 0 where
+pub record IsEnd (k : Kind) (v : Corner) (g : Dart) (w : Corner) : Type 0 where
   pub row : v.r + 1 ≡ w.r + (g.left.rows + g.right.rows)
   pub column : v.x + cell_width k ≡ w.x + (g.left.columns + g.right.columns)
 
 pub corner-same : (v w : Corner) → v.r ≡ w.r → v.x ≡ w.x → v ≡ w
 corner-same v w h k = λ i. record { r = h i; x = k i }
 
-pub end-is : (k : Kind) (v w : Corner) (g : Gap) → IsEnd k v g w → w ≡ other_end k v g
+pub end-is : (k : Kind) (v w : Corner) (g : Dart) → IsEnd k v g w → w ≡ other_end k v g
 end-is k v w g e = corner-same w (other_end k v g) (omega (arith, e.row)) (omega (arith, e.column))
 
--- two gaps of a corner with one other end are the same
-abbrev gap_eq : Gap → Gap → Bool
-gap_eq g h =
+-- two darts of a corner with one other end are the same
+abbrev dart_eq : Dart → Dart → Bool
+dart_eq g h =
     g.left.rows == h.left.rows && g.left.columns == h.left.columns && g.right.rows == h.right.rows && g.right.columns == h.right.columns
 
-gap_eq-same : (g h : Gap) → gap_eq g h ≡ true → g ≡ h
-gap_eq-same g h e =
+dart_eq-same : (g h : Dart) → dart_eq g h ≡ true → g ≡ h
+dart_eq-same g h e =
     let p = and_parts (g.left.rows == h.left.rows && g.left.columns == h.left.columns && g.right.rows == h.right.rows) (g.right.columns == h.right.columns) e in
     let q = and_parts (g.left.rows == h.left.rows && g.left.columns == h.left.columns) (g.right.rows == h.right.rows) p.0 in
     let r = and_parts (g.left.rows == h.left.rows) (g.left.columns == h.left.columns) q.0 in
@@ -78,76 +78,76 @@ gap_eq-same g h e =
     let d = eqb-true _ _ p.1 in
     λ i. record { left = record { rows = a i; columns = b i }; right = record { rows = c i; columns = d i } }
 
-abbrev one_end : Gap → Gap → Bool
+abbrev one_end : Dart → Dart → Bool
 one_end g h =
     g.left.rows + g.right.rows == h.left.rows + h.right.rows && g.left.columns + g.right.columns == h.left.columns + h.right.columns
 
 abbrev ends_tell : Kind → Bool
-ends_tell k = list_all (λ g. list_all (λ h. not (one_end g h) || gap_eq g h) (gaps k)) (gaps k)
+ends_tell k = list_all (λ g. list_all (λ h. not (one_end g h) || dart_eq g h) (darts k)) (darts k)
 
 ends_tell-true : (k : Kind) → ends_tell k ≡ true
 ends_tell-true Square = refl
 ends_tell-true Triangle = refl
 
-one_end-true : (g h : Gap) → g.left.rows + g.right.rows ≡ h.left.rows + h.right.rows → g.left.columns + g.right.columns ≡ h.left.columns + h.right.columns → one_end g h ≡ true
+one_end-true : (g h : Dart) → g.left.rows + g.right.rows ≡ h.left.rows + h.right.rows → g.left.columns + g.right.columns ≡ h.left.columns + h.right.columns → one_end g h ≡ true
 one_end-true g h e f =
     and_from _ _ (eq-eqb (g.left.rows + g.right.rows) (h.left.rows + h.right.rows) e) (eq-eqb (g.left.columns + g.right.columns) (h.left.columns + h.right.columns) f)
 
-pub same_gap : (k : Kind) (v w : Corner) (g h : Gap) → In g (gaps k) → In h (gaps k) → IsEnd k v g w → IsEnd k v h w → g ≡ h
-same_gap k v w g h i j e f =
-    gap_eq-same g h (pass (one_end g h) (gap_eq g h) (In-list_all (λ h. not (one_end g h) || gap_eq g h) (gaps k) h
-    (In-list_all (λ g. list_all (λ h. not (one_end g h) || gap_eq g h) (gaps k)) (gaps k) g (ends_tell-true k) i) j)
+pub same_dart : (k : Kind) (v w : Corner) (g h : Dart) → In g (darts k) → In h (darts k) → IsEnd k v g w → IsEnd k v h w → g ≡ h
+same_dart k v w g h i j e f =
+    dart_eq-same g h (pass (one_end g h) (dart_eq g h) (In-list_all (λ h. not (one_end g h) || dart_eq g h) (darts k) h
+    (In-list_all (λ g. list_all (λ h. not (one_end g h) || dart_eq g h) (darts k)) (darts k) g (ends_tell-true k) i) j)
     (one_end-true g h (omega (arith, e.row, f.row)) (omega (arith, e.column, f.column))))
   where
     pass : (s t : Bool) → (not s || t) ≡ true → s ≡ true → t ≡ true
     pass true t m n = m
     pass false t m n = cc n
 
--- ---- sides as gaps
+-- ---- sides as darts
 
--- A side of a cell, from its first end: the cell is on the left of the gap that leads to the other end.
-pub record LeavesBy (k : Kind) (c : Cell) (v w : Corner) (g : Gap) : Type 0 where
-  pub gap : In g (gaps k)
+-- A side of a cell, from its first end: the cell is on the left of the dart that leads to the other end.
+pub record LeavesBy (k : Kind) (c : Cell) (v w : Corner) (g : Dart) : Type 0 where
+  pub dart : In g (darts k)
   pub lies : Lies v g.left c
   pub ends : IsEnd k v g w
 
--- and from its second end: the cell is on the right of the gap that leads back
-pub record EntersBy (k : Kind) (c : Cell) (v w : Corner) (g : Gap) : Type 0 where
-  pub gap : In g (gaps k)
+-- and from its second end: the cell is on the right of the dart that leads back
+pub record EntersBy (k : Kind) (c : Cell) (v w : Corner) (g : Dart) : Type 0 where
+  pub dart : In g (darts k)
   pub lies : Lies w g.right c
   pub ends : IsEnd k w g v
 
-abbrev pub HasGaps : Kind → Cell → Side → Type 0
-HasGaps k c s =
-    ((g : Gap) × LeavesBy k c s.from s.to g) × ((g : Gap) × EntersBy k c s.from s.to g) × (s.cell ≡ c) × (is_corner k s.from ≡ true) × (is_corner k s.to ≡ true)
+abbrev pub HasDarts : Kind → Cell → Side → Type 0
+HasDarts k c s =
+    ((g : Dart) × LeavesBy k c s.from s.to g) × ((g : Dart) × EntersBy k c s.from s.to g) × (s.cell ≡ c) × (is_corner k s.from ≡ true) × (is_corner k s.to ≡ true)
 
-abbrev pub gap : ℕ → ℕ → ℕ → ℕ → Gap
-gap a b c d = record { left = record { rows = a; columns = b }; right = record { rows = c; columns = d } }
+abbrev pub dart : ℕ → ℕ → ℕ → ℕ → Dart
+dart a b c d = record { left = record { rows = a; columns = b }; right = record { rows = c; columns = d } }
 
-both_ways : (k : Kind) (a : Cell) (v w : Corner) (g h : Gap) → In g (gaps k) → In h (gaps k) → is_corner k v ≡ true → is_corner k w ≡ true
+both_ways : (k : Kind) (a : Cell) (v w : Corner) (g h : Dart) → In g (darts k) → In h (darts k) → is_corner k v ≡ true → is_corner k w ≡ true
     → (v.r ≡ a.r + g.left.rows) × (v.x ≡ a.c + g.left.columns) × (v.r + 1 ≡ w.r + (g.left.rows + g.right.rows)) × (v.x + cell_width k ≡ w.x + (g.left.columns + g.right.columns))
     → (w.r ≡ a.r + h.right.rows) × (w.x ≡ a.c + h.right.columns) × (w.r + 1 ≡ v.r + (h.left.rows + h.right.rows)) × (w.x + cell_width k ≡ v.x + (h.left.columns + h.right.columns))
-    → HasGaps k a (side a v w)
+    → HasDarts k a (side a v w)
 both_ways k a v w g h i j cv cw p q = (
-  (g, record { gap = i; lies = record { row = p.0; column = p.1 }; ends = record { row = p.2; column = p.3 } }),
-  (h, record { gap = j; lies = record { row = q.0; column = q.1 }; ends = record { row = q.2; column = q.3 } }),
+  (g, record { dart = i; lies = record { row = p.0; column = p.1 }; ends = record { row = p.2; column = p.3 } }),
+  (h, record { dart = j; lies = record { row = q.0; column = q.1 }; ends = record { row = q.2; column = q.3 } }),
   refl,
   cv,
   cw,
 )
 
-gaps-square_side : (a : Cell) → Each (HasGaps Square a) (sides Square a)
-gaps-square_side a = (
-  both_ways Square a (corner a.r a.c) (corner (a.r + 1) a.c) (gap 0 0 0 1) (gap 1 1 1 0) (inr (inr (inl refl))) (inl refl) refl refl
+darts-square_side : (a : Cell) → Each (HasDarts Square a) (sides Square a)
+darts-square_side a = (
+  both_ways Square a (corner a.r a.c) (corner (a.r + 1) a.c) (dart 0 0 0 1) (dart 1 1 1 0) (inr (inr (inl refl))) (inl refl) refl refl
       (omega arith, omega arith, omega arith, omega arith) (omega arith, omega arith, omega arith, omega arith),
   (
-    both_ways Square a (corner (a.r + 1) a.c) (corner (a.r + 1) (a.c + 1)) (gap 1 0 0 0) (gap 0 1 1 1) (inr (inl refl)) (inr (inr (inr (inl refl)))) refl refl
+    both_ways Square a (corner (a.r + 1) a.c) (corner (a.r + 1) (a.c + 1)) (dart 1 0 0 0) (dart 0 1 1 1) (inr (inl refl)) (inr (inr (inr (inl refl)))) refl refl
         (omega arith, omega arith, omega arith, omega arith) (omega arith, omega arith, omega arith, omega arith),
     (
-      both_ways Square a (corner (a.r + 1) (a.c + 1)) (corner a.r (a.c + 1)) (gap 1 1 1 0) (gap 0 0 0 1) (inl refl) (inr (inr (inl refl))) refl refl
+      both_ways Square a (corner (a.r + 1) (a.c + 1)) (corner a.r (a.c + 1)) (dart 1 1 1 0) (dart 0 0 0 1) (inl refl) (inr (inr (inl refl))) refl refl
           (omega arith, omega arith, omega arith, omega arith) (omega arith, omega arith, omega arith, omega arith),
       (
-        both_ways Square a (corner a.r (a.c + 1)) (corner a.r a.c) (gap 0 1 1 1) (gap 1 0 0 0) (inr (inr (inr (inl refl)))) (inr (inl refl)) refl refl
+        both_ways Square a (corner a.r (a.c + 1)) (corner a.r a.c) (dart 0 1 1 1) (dart 1 0 0 0) (inr (inr (inr (inl refl)))) (inr (inl refl)) refl refl
             (omega arith, omega arith, omega arith, omega arith) (omega arith, omega arith, omega arith, omega arith),
         tt,
       ),
@@ -159,19 +159,19 @@ odd : (n : ℕ) → n % 2 ≡ 1 → (n % 2 == 1) ≡ true
 odd n e = eq-eqb (n % 2) 1 e
 
 dark_side : (a : Cell) → is_dark a ≡ true
-    → Each (HasGaps Triangle a) (side a (corner a.r (a.c + 1)) (corner (a.r + 1) a.c) ∷ side a (corner (a.r + 1) a.c) (corner (a.r + 1) (a.c + 2)) ∷ side a (corner (a.r + 1) (a.c + 2)) (corner a.r (a.c + 1)) ∷ [])
+    → Each (HasDarts Triangle a) (side a (corner a.r (a.c + 1)) (corner (a.r + 1) a.c) ∷ side a (corner (a.r + 1) a.c) (corner (a.r + 1) (a.c + 2)) ∷ side a (corner (a.r + 1) (a.c + 2)) (corner a.r (a.c + 1)) ∷ [])
 dark_side a h =
     let even : (a.r + a.c) % 2 ≡ 0 = eqb-true _ _ h in
     let top : is_corner Triangle (corner a.r (a.c + 1)) ≡ true = odd (a.r + (a.c + 1)) (omega (arith, even)) in
     let left_end : is_corner Triangle (corner (a.r + 1) a.c) ≡ true = odd (a.r + 1 + a.c) (omega (arith, even)) in
     let right_end : is_corner Triangle (corner (a.r + 1) (a.c + 2)) ≡ true = odd (a.r + 1 + (a.c + 2)) (omega (arith, even)) in (
-      both_ways Triangle a (corner a.r (a.c + 1)) (corner (a.r + 1) a.c) (gap 0 1 0 2) (gap 1 1 1 0) (inr (inr (inr (inr (inl refl))))) (inr (inl refl)) top left_end
+      both_ways Triangle a (corner a.r (a.c + 1)) (corner (a.r + 1) a.c) (dart 0 1 0 2) (dart 1 1 1 0) (inr (inr (inr (inr (inl refl))))) (inr (inl refl)) top left_end
           (omega arith, omega arith, omega arith, omega arith) (omega arith, omega arith, omega arith, omega arith),
       (
-        both_ways Triangle a (corner (a.r + 1) a.c) (corner (a.r + 1) (a.c + 2)) (gap 1 0 0 0) (gap 0 2 1 2) (inr (inr (inl refl))) (inr (inr (inr (inr (inr (inl refl)))))) left_end right_end
+        both_ways Triangle a (corner (a.r + 1) a.c) (corner (a.r + 1) (a.c + 2)) (dart 1 0 0 0) (dart 0 2 1 2) (inr (inr (inl refl))) (inr (inr (inr (inr (inr (inl refl)))))) left_end right_end
             (omega arith, omega arith, omega arith, omega arith) (omega arith, omega arith, omega arith, omega arith),
         (
-          both_ways Triangle a (corner (a.r + 1) (a.c + 2)) (corner a.r (a.c + 1)) (gap 1 2 1 1) (gap 0 0 0 1) (inl refl) (inr (inr (inr (inl refl)))) right_end top
+          both_ways Triangle a (corner (a.r + 1) (a.c + 2)) (corner a.r (a.c + 1)) (dart 1 2 1 1) (dart 0 0 0 1) (inl refl) (inr (inr (inr (inl refl)))) right_end top
               (omega arith, omega arith, omega arith, omega arith) (omega arith, omega arith, omega arith, omega arith),
           tt,
         ),
@@ -179,36 +179,36 @@ dark_side a h =
     )
 
 light_side : (a : Cell) → is_dark a ≡ false
-    → Each (HasGaps Triangle a) (side a (corner a.r a.c) (corner (a.r + 1) (a.c + 1)) ∷ side a (corner (a.r + 1) (a.c + 1)) (corner a.r (a.c + 2)) ∷ side a (corner a.r (a.c + 2)) (corner a.r a.c) ∷ [])
+    → Each (HasDarts Triangle a) (side a (corner a.r a.c) (corner (a.r + 1) (a.c + 1)) ∷ side a (corner (a.r + 1) (a.c + 1)) (corner a.r (a.c + 2)) ∷ side a (corner a.r (a.c + 2)) (corner a.r a.c) ∷ [])
 light_side a h =
     let uneven : ¬ ((a.r + a.c) % 2 ≡ 0) = eqb-false _ _ h in
     let left_end : is_corner Triangle (corner a.r a.c) ≡ true = odd (a.r + a.c) (omega (arith, uneven)) in
     let foot : is_corner Triangle (corner (a.r + 1) (a.c + 1)) ≡ true = odd (a.r + 1 + (a.c + 1)) (omega (arith, uneven)) in
     let right_end : is_corner Triangle (corner a.r (a.c + 2)) ≡ true = odd (a.r + (a.c + 2)) (omega (arith, uneven)) in (
-      both_ways Triangle a (corner a.r a.c) (corner (a.r + 1) (a.c + 1)) (gap 0 0 0 1) (gap 1 2 1 1) (inr (inr (inr (inl refl)))) (inl refl) left_end foot
+      both_ways Triangle a (corner a.r a.c) (corner (a.r + 1) (a.c + 1)) (dart 0 0 0 1) (dart 1 2 1 1) (inr (inr (inr (inl refl)))) (inl refl) left_end foot
           (omega arith, omega arith, omega arith, omega arith) (omega arith, omega arith, omega arith, omega arith),
       (
-        both_ways Triangle a (corner (a.r + 1) (a.c + 1)) (corner a.r (a.c + 2)) (gap 1 1 1 0) (gap 0 1 0 2) (inr (inl refl)) (inr (inr (inr (inr (inl refl))))) foot right_end
+        both_ways Triangle a (corner (a.r + 1) (a.c + 1)) (corner a.r (a.c + 2)) (dart 1 1 1 0) (dart 0 1 0 2) (inr (inl refl)) (inr (inr (inr (inr (inl refl))))) foot right_end
             (omega arith, omega arith, omega arith, omega arith) (omega arith, omega arith, omega arith, omega arith),
         (
-          both_ways Triangle a (corner a.r (a.c + 2)) (corner a.r a.c) (gap 0 2 1 2) (gap 1 0 0 0) (inr (inr (inr (inr (inr (inl refl)))))) (inr (inr (inl refl))) right_end left_end
+          both_ways Triangle a (corner a.r (a.c + 2)) (corner a.r a.c) (dart 0 2 1 2) (dart 1 0 0 0) (inr (inr (inr (inr (inr (inl refl)))))) (inr (inr (inl refl))) right_end left_end
               (omega arith, omega arith, omega arith, omega arith) (omega arith, omega arith, omega arith, omega arith),
           tt,
         ),
       ),
     )
 
-side_gaps-each : (k : Kind) (a : Cell) → Each (HasGaps k a) (sides k a)
-side_gaps-each Square a = gaps-square_side a
-side_gaps-each Triangle a = go (is_dark a) refl
+side_darts-each : (k : Kind) (a : Cell) → Each (HasDarts k a) (sides k a)
+side_darts-each Square a = darts-square_side a
+side_darts-each Triangle a = go (is_dark a) refl
   where
     go : (t : Bool) → is_dark a ≡ t
-        → Each (HasGaps Triangle a) (cond t
+        → Each (HasDarts Triangle a) (cond t
         (side a (corner a.r (a.c + 1)) (corner (a.r + 1) a.c) ∷ side a (corner (a.r + 1) a.c) (corner (a.r + 1) (a.c + 2)) ∷ side a (corner (a.r + 1) (a.c + 2)) (corner a.r (a.c + 1)) ∷ [])
         (side a (corner a.r a.c) (corner (a.r + 1) (a.c + 1)) ∷ side a (corner (a.r + 1) (a.c + 1)) (corner a.r (a.c + 2)) ∷ side a (corner a.r (a.c + 2)) (corner a.r a.c) ∷ []))
     go true h = dark_side a h
     go false h = light_side a h
 
--- each side of a cell is a gap at both of its ends, which are corners
-pub side_gaps : (k : Kind) (a : Cell) (s : Side) → In s (sides k a) → HasGaps k a s
-side_gaps k a s i = Each-at (HasGaps k a) s (sides k a) (side_gaps-each k a) i
+-- each side of a cell is a dart at both of its ends, which are corners
+pub side_darts : (k : Kind) (a : Cell) (s : Side) → In s (sides k a) → HasDarts k a s
+side_darts k a s i = Each-at (HasDarts k a) s (sides k a) (side_darts-each k a) i
