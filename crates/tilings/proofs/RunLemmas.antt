@@ -1,7 +1,8 @@
 -- From what the program hears and writes to a run.
-use Rattle.std.proofs.Common.{◌≡◌, inl, inr, ℕ, List, [], Option, Some, None, refl, sym, ap, subst, append-nil}
+use Rattle.std.proofs.Common.{◌≡◌, inl, inr, ℕ, List, [], Option, refl, sym, ap, subst}
 use Rattle.std.specs.Io.KnownBytes.{append_known}
 use Rattle.tl_io.specs.Writes.{IsPrefixOf, AppendsPart}
+use Rattle.tl_io.proofs.Known.{append_known-nil}
 use Rattle.tilings.specs.Answers.{Answer}
 use Rattle.tilings.specs.Runs.{is_whole, IsRun}
 use Rattle.tilings.specs.Hearings.{Hears, HearsPart}
@@ -45,10 +46,6 @@ run-cut words source source' sink sink' a source_rose sink_rose source_same h w 
   untouched = h.untouched;
 }
 
-append_known-nil : (known : Option (List ℕ)) → known ≡ append_known known []
-append_known-nil None = refl
-append_known-nil (Some bytes) = ap (λ (l : List ℕ). Some l) (sym (append-nil bytes))
-
 -- want of memory
 pub run-memory : (words : List (List ℕ)) (source source' sink : Option (List ℕ)) (source_rose sink_rose source_same : Type 0)
     → HearsPart words source source' source_same → IsRun words source source' sink sink 6 source_rose sink_rose source_same
@@ -57,7 +54,7 @@ run-memory words source source' sink source_rose sink_rose source_same h = recor
   left = h.left;
   out = [];
   leaves = h.leaves;
-  appends = append_known-nil sink;
+  appends = sym (append_known-nil sink);
   replied = λ t. cc t;
   read_fault = λ e. cc e;
   write_fault = λ e. cc e;

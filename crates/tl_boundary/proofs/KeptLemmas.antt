@@ -1,13 +1,13 @@
 -- What a walk keeps of its sides, side by side.
-use Rattle.std.proofs.Common.{◌≡◌, ℕ, zero, suc, ◌+◌, ◌*◌, ◌/◌, ◌<◌, ◌≤◌, ◌⊎◌, inl, inr, Bool, true, false, not, cond, List, [], ◌∷◌, ◌++◌, map, length, replicate, get_or, Option, Some, None, refl, sym, ◌∙◌, ap, subst, arith, ℤ, pos, ◌+ℤ◌}
+use Rattle.std.proofs.Common.{◌≡◌, ℕ, zero, suc, ◌+◌, ◌*◌, ◌<◌, ◌≤◌, ◌⊎◌, inl, inr, Bool, true, false, not, cond, List, [], ◌∷◌, ◌++◌, map, length, replicate, get_or, Option, Some, None, refl, sym, ◌∙◌, ap, subst, arith, ℤ, pos, ◌+ℤ◌}
 use Rattle.std.specs.Prelude.{◌==◌, slice_get, slice_index, slice_set, slice_index_or, count_by, sum_by, position, unwrap_or, option_map}
 use Rattle.std.specs.List.{list_any, position_or_len}
-use Rattle.std.proofs.lemmas.Bool.{eqb-true}
+use Rattle.std.proofs.lemmas.Bool.{eqb-true, not-false}
 use Rattle.std.proofs.lemmas.List.{get_or-set_same, get_or-set_other, length-set, length-replicate, length-append, length-map, map-append}
 use Rattle.std.proofs.lemmas.List.Sums.{sum_by-set}
 use Rattle.std.proofs.lemmas.List.Folds.{sum_by-replicate}
 use Rattle.std.proofs.lemmas.Option.{slice_get_read, slice_get-map, get_or_from_slice_get}
-use Rattle.std.proofs.lemmas.Nat.{mul-add-lt, div-mul-add}
+use Rattle.std.proofs.lemmas.Nat.{mul-add-lt}
 use Rattle.std.proofs.Math.Nat.{mul_comm, mul-le-mul}
 use Rattle.tl_definitions.specs.declared.Corner.{Corner}
 use Rattle.tl_definitions.specs.Lattice.{corner_eq, Side}
@@ -15,18 +15,18 @@ use Rattle.tl_definitions.specs.Region.{Region}
 use Rattle.tl_definitions.specs.Accepted.{circuit_corners, IsCircuit}
 use Rattle.tl_definitions.specs.Obstruction.{sign, prefix}
 use Rattle.tl_definitions.proofs.Regions.{same_test, nat_cases}
-use Rattle.tl_definitions.proofs.CornerRings.{corner_eq-same, corner_eq-refl}
-use Rattle.tl_definitions.proofs.Darts.{corner-same}
 use Rattle.tl_definitions.proofs.InnerNumbers.{position-within, position-some, position-missing, position-other, position-here}
-use Rattle.tl_definitions.proofs.Walks.{map-push, corner-In, In-map_parts}
-use Rattle.tl_definitions.proofs.Sublists.{In}
+use Rattle.tl_definitions.proofs.Walks.{map-push, corner-In}
+use Rattle.tl_definitions.proofs.Sublists.{In, In-map_parts}
 use Rattle.tl_definitions.proofs.Circuits.{boundary-within}
+use Rattle.tl_definitions.proofs.Corners.{corner_eq-same, corner_eq-refl, same_place}
 use Rattle.tl_closing.proofs.Edges.{Distinct-cells}
 use Rattle.tl_closing.proofs.Circuit.{walk-boundary}
 use Rattle.tl_grid.specs.declared.circuit.BoundarySide.{BoundarySide}
 use Rattle.tl_grid.specs.Grid.{IsKept}
 use Rattle.tl_grid.specs.Inner.{number_in}
 use Rattle.tl_grid.specs.Sides.{side_of}
+use Rattle.tl_grid.proofs.InnerLemmas.{number-missing}
 use Rattle.tl_boundary.specs.declared.walk.Walk.{Walk}
 use Rattle.tl_boundary.specs.Walk.{is_free, Keeps}
 use Rattle.tl_boundary.proofs.Prefixes.{prefix-before, prefix-after}
@@ -105,20 +105,13 @@ keeps-none R w e f g h = record {
 
 -- ---- numbers
 
-number-missing : (found : List Corner) (v : Corner) → list_any (corner_eq v) found ≡ false → number_in found v ≡ 4294967295
-number-missing found v e = ap (λ (o : Option ℕ). unwrap_or o 4294967295) (position-missing (corner_eq v) found e)
-
 number-found : (found : List Corner) (v : Corner) → list_any (corner_eq v) found ≡ true → number_in found v < length found
 number-found found v e =
     let is : number_in found v ≡ position_or_len (corner_eq v) found = ap (λ (o : Option ℕ). unwrap_or o 4294967295) (position-some (corner_eq v) found e) in
     omega (arith, is, position-within (corner_eq v) found e)
 
-not_false : (b : Bool) → not b ≡ false → b ≡ true
-not_false true e = refl
-not_false false e = cc e
-
 pub number-free : (n : ℕ) → not (n == 4294967295) ≡ false → n ≡ 4294967295
-number-free n e = eqb-true n 4294967295 (not_false _ e)
+number-free n e = eqb-true n 4294967295 (not-false _ e)
 
 pub passed-any : (R : Region) (sides : List Side) (w : Walk) (v : Corner) → IsKept R → Keeps R sides w → v.r < R.rows + 1 → v.x < R.columns + 2
     → (t : Bool) → not (slice_index w.places.items (place R v) == 4294967295) ≡ t → list_any (corner_eq v) (circuit_corners sides) ≡ t
@@ -174,13 +167,6 @@ free-fewer places i n h e taken =
   where
     one : Bool → ℕ
     one b = cond b 1 0
-
--- two corners with one place are the same
-same_place : (u v : Corner) (w : ℕ) → u.x < w → v.x < w → u.r * w + u.x ≡ v.r * w + v.x → u ≡ v
-same_place u v w h k e =
-    let rows : u.r ≡ v.r = sym (div-mul-add u.r w u.x h) ∙ ap (λ (n : ℕ). n / w) e ∙ div-mul-add v.r w v.x k in
-    let start : u.r * w ≡ v.r * w = ap (λ (n : ℕ). n * w) rows in
-    corner-same u v rows (omega (arith, e, start))
 
 -- what a push changes
 pub record Pushes (s : BoundarySide) (old new : Walk) : Type 0 where

@@ -13,10 +13,10 @@ use Rattle.tl_definitions.specs.Accepted.{Accepted, IsCircuit, circuit_corners}
 use Rattle.tl_definitions.specs.Boundary.{side_from, is_boundary_corner, IsClosedWalk}
 use Rattle.tl_definitions.specs.Obstruction.{prefix}
 use Rattle.tl_definitions.proofs.Sublists.{In}
-use Rattle.tl_definitions.proofs.CornerRings.{corner_eq-same}
 use Rattle.tl_definitions.proofs.NextCorner.{find-In}
 use Rattle.tl_definitions.proofs.Walks.{IsWalk, corner-In, In-corner, walk-start, walk-more, walk-closes}
 use Rattle.tl_definitions.proofs.Circuits.{IsFirstBoundaryCorner, boundary-from, no_pinch-sides, closed-circuit, circuit-passes, no_corner-circuit}
+use Rattle.tl_definitions.proofs.Corners.{corner_eq-same}
 use Rattle.tl_closing.proofs.Edges.{cell-within}
 use Rattle.tl_closing.proofs.Circuit.{side-cell}
 use Rattle.tl_closing.proofs.Boundary.{boundary-parts}

@@ -5,7 +5,8 @@ use Rattle.tl_definitions.specs.Chain.{ChainMeaning, IsLawfulChain, SameMeaning,
 use Rattle.tl_chain.specs.Walk.{walk, walked}
 use Rattle.tl_chain.proofs.Ends.{ChainGathers-one}
 use Rattle.tl_chain.proofs.Meaning.{SameMeaning-refl}
-use Rattle.tl_chain.proofs.Search.{IsLeastPower-one, NoPower-least}
+use Rattle.tl_definitions.proofs.Laws.{same_power}
+use Rattle.tl_chain.proofs.Search.{NoPower-least}
 
 below_three : (P : ℕ → Type 0) → P 0 → P 1 → P 2 → (s : ℕ) → s ≤ 2 → P s
 below_three P a b c zero h = a
@@ -100,7 +101,7 @@ not_late_at_2 none = none 2 (omega arith) (ChainGathers-one (walk 2 ups) 4 1 fro
 
 -- a later start is not the start, and none is past the bound
 not_start_8 : ¬ IsChainStart (walk 2 ups) 3 8
-not_start_8 s = omega (arith, IsLeastPower-one (ChainGathers (walk 2 ups)) 3 8 4 s (start_4 3 (omega arith)))
+not_start_8 s = omega (arith, same_power (ChainGathers (walk 2 ups)) 3 8 4 s (start_4 3 (omega arith)))
 
 not_start_past_bound : ¬ IsChainStart (walk 2 ups) 1 4
 not_start_past_bound s = NoPower-least (ChainGathers (walk 2 ups)) 1 4 s late_at_1

@@ -1,15 +1,7 @@
 -- The least power of two.
-use Rattle.std.proofs.Common.{◌≡◌, ℕ, ◌^◌, ◌≤◌, ◌<◌, refl, sym, ◌∙◌, ap, subst, arith, below_more}
+use Rattle.std.proofs.Common.{ℕ, ◌^◌, ◌≤◌, ◌<◌, refl, subst, arith, below_more}
 use Rattle.tl_definitions.specs.Powers.{IsLeastPower, NoPower}
 use Rattle.tl_definitions.specs.Chain.{ChainMeaning, SameMeaning, ChainGathers}
-
--- there is one least power
-pub IsLeastPower-one : (P : ℕ → Type 0) (bound T U : ℕ) → IsLeastPower P bound T → IsLeastPower P bound U → T ≡ U
-IsLeastPower-one P bound T U s t =
-    let not_below = λ (h : s.exponent < t.exponent). t.least s.exponent h (subst P s.power s.holds) in
-    let not_above = λ (h : t.exponent < s.exponent). s.least t.exponent h (subst P t.power t.holds) in
-    let same : s.exponent ≡ t.exponent = omega (arith, not_below, not_above) in
-    s.power ∙ ap (λ k. 2 ^ k) same ∙ sym t.power
 
 -- where there is a least power, some power has the property
 pub NoPower-least : (P : ℕ → Type 0) (bound T : ℕ) → IsLeastPower P bound T → NoPower P bound → ⊥

@@ -11,15 +11,16 @@ use Rattle.tl_definitions.specs.Lattice.{corner_eq, is_dark, Side, sides}
 use Rattle.tl_definitions.specs.Region.{Region, all_sides, is_other_side, is_boundary, boundary, joins_corners}
 use Rattle.tl_definitions.specs.Tiling.{is_tiling}
 use Rattle.tl_definitions.specs.Heights.{rise, climb}
-use Rattle.tl_definitions.proofs.Sublists.{In, In-map, In-flat_map}
+use Rattle.tl_definitions.proofs.Sublists.{In, In-map, In-flat_map, In-any_of, In-flat_map_parts, In-map_parts}
 use Rattle.tl_definitions.proofs.Ordered.{In-filter_parts, In-list_all}
+use Rattle.tl_definitions.proofs.Corners.{corner_eq-same, corner_eq-refl}
+use Rattle.tl_definitions.proofs.Tilings.{TilingParts, tiling-parts}
 use Rattle.tl_closing.specs.Closing.{step_along, steps_round}
-use Rattle.tl_closing.proofs.Members.{In-any_from, In-flat_map_parts, In-map_parts}
-use Rattle.tl_closing.proofs.Steps.{corner_eq-same, corner_eq-refl, IsStepOut, step-one_way}
+use Rattle.tl_closing.proofs.Steps.{IsStepOut, step-one_way}
 use Rattle.tl_closing.proofs.Sides.{directed}
 use Rattle.tl_closing.proofs.Centres.{cell-one}
 use Rattle.tl_closing.proofs.Edges.{Step, round-step}
-use Rattle.tl_closing.proofs.Crossed.{edge-round, is_crossed, crossed-parts, IsAcross, TilingParts, tiling-parts}
+use Rattle.tl_closing.proofs.Crossed.{edge-round, is_crossed, crossed-parts, IsAcross}
 use Rattle.tl_closing.proofs.Circuit.{RisesAt, side-cell}
 
 -- a boundary side is a side of a cell of the region
@@ -120,7 +121,7 @@ inside-two R a s i h = start (some_other (all_sides R) h)
         let to : s.to ≡ t.from = corner_eq-same _ _ p.1 in (
           b,
           j,
-          edge-round R.kind b (step_along s) out (In-any_from (joins_corners (step_along s).0 (step_along s).1) t (sides R.kind b) k (between t from to)),
+          edge-round R.kind b (step_along s) out (In-any_of (joins_corners (step_along s).0 (step_along s).1) t (sides R.kind b) k (between t from to)),
           apart b t k from to,
         )
 

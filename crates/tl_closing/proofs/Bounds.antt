@@ -13,10 +13,11 @@ use Rattle.tl_definitions.specs.Accepted.{Accepted, IsCircuit, circuit_corners, 
 use Rattle.tl_definitions.specs.Obstruction.{int_sum, sign, prefix, is_step}
 use Rattle.tl_definitions.specs.Heights.{rise, height, AreLawful}
 use Rattle.tl_definitions.proofs.Sublists.{In}
+use Rattle.tl_definitions.proofs.Walks.{side_eq-same, side_eq-refl}
 use Rattle.tl_closing.specs.Closing.{step_along, steps_round}
 use Rattle.tl_closing.proofs.Members.{Distinct, without, length-without, length-filter_le}
 use Rattle.tl_closing.proofs.Edges.{Distinct-cells, is_step-parts}
-use Rattle.tl_closing.proofs.Circuit.{side_eq-same, side_eq-refl, boundary-walk, walk-boundary, Distinct-walk}
+use Rattle.tl_closing.proofs.Circuit.{boundary-walk, walk-boundary, Distinct-walk}
 use Rattle.tl_closing.proofs.Crossed.{length-round}
 use Rattle.tl_closing.proofs.Falls.{falls-by}
 use Rattle.tl_closing.proofs.Ring.{BeginsAt, inner-or-boundary, inner-left, left_gap, LeftNeighbour}

@@ -6,9 +6,9 @@ use Rattle.tl_definitions.specs.declared.Cell.{Cell}
 use Rattle.tl_definitions.specs.declared.Corner.{Corner}
 use Rattle.tl_definitions.specs.Lattice.{is_dark}
 use Rattle.tl_definitions.proofs.Sublists.{In, Each, Each-at}
+use Rattle.tl_definitions.proofs.Corners.{corner-same}
 use Rattle.tl_closing.specs.Closing.{steps_round}
 use Rattle.tl_closing.proofs.Members.{Distinct}
-use Rattle.tl_closing.proofs.Steps.{corner_same}
 use Rattle.tl_closing.proofs.Sides.{left_step, other_steps, left_here, others_here, steps-table, SameStep, same_step}
 
 -- The centre of a cell is the middle of each step round it, moved by half a cell to the left where the cell is dark
@@ -68,8 +68,8 @@ dark-light-step k a b d e dark light i j m n =
     centres-step k a.r a.c b.r b.c d e
     (subst (λ (t : Bool). IsCentre k t a.r a.c d) dark (round-centre k a d i)) (subst (λ (t : Bool). IsCentre k t b.r b.c d) light (round-centre k b d j))
     (subst (λ (t : Bool). IsCentre k t a.r a.c e) dark (round-centre k a e m)) (subst (λ (t : Bool). IsCentre k t b.r b.c e) light (round-centre k b e n)) in
-    let from : d.0 ≡ e.0 = corner_same d.0 e.0 p.0.0 p.0.1 in
-    let to : d.1 ≡ e.1 = corner_same d.1 e.1 p.1.0 p.1.1 in
+    let from : d.0 ≡ e.0 = corner-same d.0 e.0 p.0.0 p.0.1 in
+    let to : d.1 ≡ e.1 = corner-same d.1 e.1 p.1.0 p.1.1 in
     λ i. (from i, to i)
 
 -- two different cells have no more than one step in common

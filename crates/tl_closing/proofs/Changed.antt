@@ -1,6 +1,6 @@
 -- Lawful heights stay lawful where they are raised at an inner corner to which all steps fall, or lowered at one from
 -- which all steps fall.
-use Rattle.std.proofs.Common.{◌≡◌, ℕ, zero, suc, ◌-◌, inl, inr, Bool, true, false, List, [], ◌∷◌, cond, Some, refl, sym, ◌∙◌, ap, subst, arith, ℤ, pos, negsuc, ◌+ℤ◌, ◌*ℤ◌, ◌≤ℤ◌, int_lt}
+use Rattle.std.proofs.Common.{◌≡◌, ℕ, ◌-◌, Bool, true, false, List, cond, Some, refl, sym, ◌∙◌, ap, subst, arith, ℤ, pos, negsuc, ◌+ℤ◌, ◌*ℤ◌, ◌≤ℤ◌, int_lt}
 use Rattle.std.specs.Prelude.{slice_get, IsTrue}
 use Rattle.std.proofs.lemmas.Int.{ints}
 use Rattle.std.proofs.lemmas.Bool.{false_from_ne_true}
@@ -13,23 +13,18 @@ use Rattle.tl_definitions.specs.Region.{Region, present, boundary, is_corner_of,
 use Rattle.tl_definitions.specs.Accepted.{Accepted, IsCircuit, circuit_corners}
 use Rattle.tl_definitions.specs.Obstruction.{is_step, prefix}
 use Rattle.tl_definitions.specs.Heights.{rise, height, AreLawful}
-use Rattle.tl_definitions.proofs.Sublists.{In}
+use Rattle.tl_definitions.proofs.Sublists.{In, In-map_parts, slice_get-In}
 use Rattle.tl_definitions.proofs.Ordered.{In-list_all}
+use Rattle.tl_definitions.proofs.Corners.{corner_eq-same}
 use Rattle.tl_closing.specs.Closing.{steps_round}
 use Rattle.tl_closing.specs.Standing.{steps_in, falls_from, falls_to}
 use Rattle.tl_closing.specs.Changed.{IsChangedAt}
-use Rattle.tl_closing.proofs.Members.{In-map_parts}
-use Rattle.tl_closing.proofs.Steps.{corner_eq-same, step-one_way}
+use Rattle.tl_closing.proofs.Steps.{step-one_way}
 use Rattle.tl_closing.proofs.Edges.{Distinct-cells, round-corners, corner_of-from, is_step-parts}
 use Rattle.tl_closing.proofs.Circuit.{walk-boundary}
 use Rattle.tl_closing.proofs.Falls.{falls-by}
 use Rattle.tl_closing.proofs.Start.{boundary-corner}
 use Rattle.tl_closing.proofs.OffBoundary.{inner-off_boundary, step-out, step-in}
-
-slice_get-In : {A : Type 0} (xs : List A) (k : ℕ) (x : A) → slice_get xs k ≡ Some x → In x xs
-slice_get-In [] k x e = cc e
-slice_get-In (y ∷ ys) zero x e = inl (cc e)
-slice_get-In (y ∷ ys) (suc k) x e = inr (slice_get-In ys k x e)
 
 pub step-ends : (R : Region) (u w : Corner) → IsTrue (is_step R u w) → (is_corner_of R u ≡ true) × (is_corner_of R w ≡ true)
 step-ends R u w e = go (is_step-parts R u w e)

@@ -1,39 +1,26 @@
 -- Along the circuit: a function rises by the sign of each boundary edge exactly where it has the prefixes.
-use Rattle.std.proofs.Common.{◌≡◌, ℕ, zero, suc, ◌+◌, inl, inr, Bool, true, false, ◌&&◌, List, [], ◌∷◌, ◌++◌, map, take, cond, Some, refl, sym, ◌∙◌, ap, subst, arith, ℤ, pos, ◌+ℤ◌}
+use Rattle.std.proofs.Common.{◌≡◌, ℕ, zero, suc, ◌+◌, inl, inr, Bool, true, false, List, [], ◌∷◌, ◌++◌, map, take, cond, Some, refl, sym, ◌∙◌, ap, subst, arith, ℤ, pos, ◌+ℤ◌}
 use Rattle.std.specs.Prelude.{slice_get}
 use Rattle.std.specs.List.{list_any}
 use Rattle.std.proofs.lemmas.Int.{ints}
-use Rattle.std.proofs.lemmas.Bool.{and_parts, and_from}
 use Rattle.tl_definitions.specs.declared.Kind.{Kind}
 use Rattle.tl_definitions.specs.declared.Kind.TheVariants.{Square, Triangle}
 use Rattle.tl_definitions.specs.declared.Cell.{Cell}
 use Rattle.tl_definitions.specs.declared.Corner.{Corner}
-use Rattle.tl_definitions.specs.Lattice.{corner, cell_eq, corner_eq, is_dark, Side, side, sides}
+use Rattle.tl_definitions.specs.Lattice.{corner, corner_eq, is_dark, Side, side, sides}
 use Rattle.tl_definitions.specs.Region.{Region, all_sides, side_eq, is_boundary, boundary}
 use Rattle.tl_definitions.specs.Accepted.{IsCircuit, circuit_corners, turned}
 use Rattle.tl_definitions.specs.Obstruction.{int_sum, sign, prefix, total}
-use Rattle.tl_definitions.proofs.Regions.{cell_eq-same}
-use Rattle.tl_definitions.proofs.Sublists.{In, Each, Each-at, cell_eq-refl}
+use Rattle.tl_definitions.proofs.Sublists.{In, Each, Each-at}
 use Rattle.tl_definitions.proofs.Ordered.{In-list_all}
+use Rattle.tl_definitions.proofs.Corners.{corner_eq-refl}
+use Rattle.tl_definitions.proofs.Walks.{side_eq-same, side_eq-refl, side-In}
 use Rattle.tl_closing.specs.Closing.{step_along}
-use Rattle.tl_closing.proofs.Members.{Distinct, Distinct-filter, Distinct-flat_map, In-any_parts}
-use Rattle.tl_closing.proofs.Steps.{corner_eq-same, corner_eq-refl}
+use Rattle.tl_closing.proofs.Members.{Distinct, Distinct-filter, Distinct-flat_map}
 use Rattle.tl_closing.proofs.Centres.{round-once}
 use Rattle.tl_closing.proofs.Sums.{Distinct-unmap, Distinct-from, sum-members, sum-turned}
 
 -- ---- sides
-
-pub side_eq-same : (s t : Side) → side_eq s t ≡ true → s ≡ t
-side_eq-same s t e =
-    let p : ((cell_eq s.cell t.cell && corner_eq s.from t.from) ≡ true) × (corner_eq s.to t.to ≡ true) = and_parts _ _ e in
-    let q : (cell_eq s.cell t.cell ≡ true) × (corner_eq s.from t.from ≡ true) = and_parts _ _ p.0 in
-    let c : s.cell ≡ t.cell = cell_eq-same _ _ q.0 in
-    let f : s.from ≡ t.from = corner_eq-same _ _ q.1 in
-    let g : s.to ≡ t.to = corner_eq-same _ _ p.1 in
-    λ i. record { cell = c i; from = f i; to = g i }
-
-pub side_eq-refl : (s : Side) → side_eq s s ≡ true
-side_eq-refl s = and_from _ _ (and_from _ _ (cell_eq-refl s.cell) (corner_eq-refl s.from)) (corner_eq-refl s.to)
 
 sides-cells : (k : Kind) (a : Cell) → Each (λ s. s.cell ≡ a) (sides k a)
 sides-cells Square a = (refl, (refl, (refl, (refl, tt))))
@@ -63,17 +50,11 @@ module _ (R : Region) (once : Distinct R.cells) where
     pub Distinct-walk : Distinct walk
     Distinct-walk = Distinct-unmap (λ s. s.from) walk (Distinct-from corner_eq corner_eq-refl (circuit_corners walk) circuit.once)
 
-    found : (s : Side) (ss : List Side) → list_any (side_eq s) ss ≡ true → In s ss
-    found s ss e = go (In-any_parts (side_eq s) ss e)
-      where
-        go : (t : Side) × In t ss × (side_eq s t ≡ true) → In s ss
-        go (t, i, h) = subst (λ (x : Side). In x ss) (sym (side_eq-same s t h)) i
-
     pub walk-boundary : (s : Side) → In s walk → In s (boundary R)
-    walk-boundary s i = found s (boundary R) (In-list_all (λ s. list_any (side_eq s) (boundary R)) walk s circuit.on_boundary i)
+    walk-boundary s i = side-In s (boundary R) (In-list_all (λ s. list_any (side_eq s) (boundary R)) walk s circuit.on_boundary i)
 
     pub boundary-walk : (s : Side) → In s (boundary R) → In s walk
-    boundary-walk s i = found s walk (In-list_all (λ s. list_any (side_eq s) walk) (boundary R) s circuit.whole i)
+    boundary-walk s i = side-In s walk (In-list_all (λ s. list_any (side_eq s) walk) (boundary R) s circuit.whole i)
 
     pub total-walk : total R ≡ int_sum (map sign walk)
     total-walk = sum-members side_eq side_eq-same side_eq-refl sign (boundary R) walk Distinct-boundary Distinct-walk boundary-walk walk-boundary

@@ -10,12 +10,13 @@ use Rattle.tl_definitions.specs.Accepted.{Accepted, AreJoined, IsPlaced, HasEule
 use Rattle.tl_definitions.specs.Obstruction.{int_sum, is_step}
 use Rattle.tl_definitions.specs.Heights.{rise}
 use Rattle.tl_definitions.proofs.Joined.{joined_hands_on}
-use Rattle.tl_definitions.proofs.Sublists.{In, Each, Each-at}
+use Rattle.tl_definitions.proofs.Sublists.{In, Each, Each-at, In-map_parts}
 use Rattle.tl_definitions.proofs.Ordered.{In-filter_parts}
+use Rattle.tl_definitions.proofs.Corners.{corner_eq-same, corner_eq-refl}
 use Rattle.tl_closing.specs.Closing.{steps_round, ClosesRoundCells, IsPotential, HasOnePotential}
-use Rattle.tl_closing.proofs.Members.{In-map_parts, Each-from}
+use Rattle.tl_closing.proofs.Members.{Each-from}
 use Rattle.tl_closing.proofs.Merge.{merged}
-use Rattle.tl_closing.proofs.Steps.{corner_eq-same, corner_eq-refl, step-move, residue, residue-move}
+use Rattle.tl_closing.proofs.Steps.{step-move, residue, residue-move}
 use Rattle.tl_closing.proofs.Sides.{left_here, others_here, corners-table, steps-table, others-later, SameStep, same_step}
 use Rattle.tl_closing.proofs.Shared.{neighbours-share, Share}
 use Rattle.tl_closing.proofs.Edges.{round-step, round-corners, Step, vertices, tree_part, left_steps, has-In, In-has, corner_of-parts, is_step-parts, is_step-from, cell-within, Distinct-vertices, In-tree_part, length-tree_part}

@@ -11,11 +11,11 @@ use Rattle.tl_definitions.specs.Region.{Region, all_sides, is_boundary}
 use Rattle.tl_definitions.specs.Accepted.{IsPlaced, IsCircuit}
 use Rattle.tl_definitions.specs.Obstruction.{int_sum, sign, total}
 use Rattle.tl_definitions.specs.Heights.{rise}
-use Rattle.tl_definitions.proofs.Sublists.{In, In-map, In-filter, In-flat_map}
+use Rattle.tl_definitions.proofs.Sublists.{In, In-map, In-filter, In-flat_map, In-flat_map_parts, In-map_parts}
 use Rattle.tl_definitions.proofs.Ordered.{In-filter_parts}
 use Rattle.tl_closing.specs.Closing.{step_along, steps_round}
 use Rattle.tl_closing.specs.Colours.{dark_count, light_count}
-use Rattle.tl_closing.proofs.Members.{Distinct, Distinct-filter, In-flat_map_parts, In-map_parts}
+use Rattle.tl_closing.proofs.Members.{Distinct, Distinct-filter}
 use Rattle.tl_closing.proofs.Sides.{directed}
 use Rattle.tl_closing.proofs.Centres.{cell-one}
 use Rattle.tl_closing.proofs.Edges.{Step, step_eq, step_eq-same, step_eq-refl, Distinct-cells}

@@ -1,26 +1,26 @@
 -- The edges that a tiling's tiles cross: one round each cell. So the climbs of a tiling close round each cell, and
 -- tilings with the same climbs are the same.
-use Rattle.std.proofs.Common.{◌≡◌, ℕ, suc, ◌-◌, ◌*◌, ◌≤◌, ◌⊎◌, inl, inr, Bool, true, false, ◌&&◌, List, [], ◌∷◌, map, length, cond, refl, sym, ◌∙◌, ap, subst, arith, ℤ, pos, negsuc, ◌+ℤ◌}
-use Rattle.std.specs.Prelude.{◌==◌, count_by, IsTrue}
-use Rattle.std.specs.List.{list_any, list_all}
+use Rattle.std.proofs.Common.{◌≡◌, ℕ, suc, ◌-◌, ◌*◌, ◌≤◌, ◌⊎◌, inl, inr, Bool, true, false, List, [], ◌∷◌, map, length, cond, refl, sym, ◌∙◌, ap, subst, arith, ℤ, pos, negsuc, ◌+ℤ◌}
+use Rattle.std.specs.Prelude.{IsTrue}
+use Rattle.std.specs.List.{list_any}
 use Rattle.std.proofs.lemmas.Int.{ints}
-use Rattle.std.proofs.lemmas.Bool.{and_parts, and_from, or_cases, or_left, or_right, eqb-true}
+use Rattle.std.proofs.lemmas.Bool.{and_parts, and_from, or_cases, or_left, or_right}
 use Rattle.tl_definitions.specs.declared.Kind.{Kind}
 use Rattle.tl_definitions.specs.declared.Kind.TheVariants.{Square, Triangle}
 use Rattle.tl_definitions.specs.declared.Cell.{Cell}
 use Rattle.tl_definitions.specs.declared.Corner.{Corner}
 use Rattle.tl_definitions.specs.declared.Tile.{Tile}
-use Rattle.tl_definitions.specs.Lattice.{cell_eq, cell_lt, are_neighbours, is_dark, Side, sides}
-use Rattle.tl_definitions.specs.Region.{Region, has, joins_corners, is_corner_of}
-use Rattle.tl_definitions.specs.Accepted.{linked}
-use Rattle.tl_definitions.specs.Tiling.{tile_lt, covers, is_tile, is_tiling}
+use Rattle.tl_definitions.specs.Lattice.{cell_eq, cell_lt, is_dark, Side, sides}
+use Rattle.tl_definitions.specs.Region.{Region, joins_corners, is_corner_of}
+use Rattle.tl_definitions.specs.Tiling.{tile_lt, covers, is_tiling}
 use Rattle.tl_definitions.specs.Obstruction.{int_sum, is_step}
 use Rattle.tl_definitions.specs.Heights.{rise, has_edge, crosses, climb}
 use Rattle.tl_definitions.proofs.Regions.{cell_eq-same}
-use Rattle.tl_definitions.proofs.Sublists.{In, In-map, cell_eq-refl, cell_lt-irreflexive, cell_lt-transitive, tile_lt-irreflexive, tile_lt-transitive}
-use Rattle.tl_definitions.proofs.Ordered.{In-list_all, linked-same, Only, only-count_by}
+use Rattle.tl_definitions.proofs.Sublists.{In, In-map, cell_eq-refl, cell_lt-irreflexive, cell_lt-transitive, tile_lt-irreflexive, tile_lt-transitive, In-any_of, any-In, In-map_parts}
+use Rattle.tl_definitions.proofs.Ordered.{linked-same, Only}
+use Rattle.tl_definitions.proofs.Tilings.{TileParts, TilingParts, tiling-parts}
 use Rattle.tl_closing.specs.Closing.{step_along, steps_round, sum_round, ClosesRoundCells}
-use Rattle.tl_closing.proofs.Members.{In-any_from, In-any_parts, In-map_parts, count, count_some, count_one}
+use Rattle.tl_closing.proofs.Members.{count, count_some, count_one}
 use Rattle.tl_closing.proofs.Steps.{IsStepOut, step-one_way}
 use Rattle.tl_closing.proofs.Sides.{steps-table, left_step, other_steps}
 use Rattle.tl_closing.proofs.Shared.{neighbours-share, Share}
@@ -30,7 +30,7 @@ use Rattle.tl_closing.proofs.Edges.{Step, has-In, round-step, round-corners, joi
 -- ---- the edges of a cell are the steps round it
 
 pub edge-round : (k : Kind) (a : Cell) (e : Step) → IsStepOut k e.0 e.1 → has_edge k a e.0 e.1 ≡ true → In e (steps_round k a)
-edge-round k a e out h = start (In-any_parts (joins_corners e.0 e.1) (sides k a) h)
+edge-round k a e out h = start (any-In (joins_corners e.0 e.1) (sides k a) h)
   where
     go : (s : Side) → In s (sides k a) → (step_along s ≡ (e.0, e.1)) ⊎ (step_along s ≡ (e.1, e.0)) → In e (steps_round k a)
     go s i (inl same) = subst (λ (d : Step). In d (steps_round k a)) same (In-map step_along s (sides k a) i)
@@ -45,7 +45,7 @@ round-edge k a e i = go (In-map_parts step_along e (sides k a) i)
   where
     go : (s : Side) × In s (sides k a) × (e ≡ step_along s) → has_edge k a e.0 e.1 ≡ true
     go (s, j, same) =
-        In-any_from (joins_corners e.0 e.1) s (sides k a) j (subst (λ (d : Step). joins_corners d.0 d.1 s ≡ true) (sym same) (joins-step s))
+        In-any_of (joins_corners e.0 e.1) s (sides k a) j (subst (λ (d : Step). joins_corners d.0 d.1 s ≡ true) (sym same) (joins-step s))
 
 -- ---- the tiles of a tiling
 
@@ -55,26 +55,6 @@ covers-cases t a e = elim (or_cases _ _ e) [ inl h ↦ inl (sym (cell_eq-same _ 
 pub covers-from : (t : Tile) (a : Cell) → (a ≡ t.first) ⊎ (a ≡ t.second) → covers t a ≡ true
 covers-from t a (inl e) = or_left (cell_eq t.first a) _ (subst (λ (x : Cell). cell_eq t.first x ≡ true) (sym e) (cell_eq-refl t.first))
 covers-from t a (inr e) = or_right (cell_eq t.first a) _ (subst (λ (x : Cell). cell_eq t.second x ≡ true) (sym e) (cell_eq-refl t.second))
-
-pub record TileParts (R : Region) (t : Tile) : Type 0 where
-  pub first : In t.first R.cells
-  pub second : In t.second R.cells
-  pub order : cell_lt t.first t.second ≡ true
-  pub near : are_neighbours R.kind t.first t.second ≡ true
-  pub differ : t.first ≡ t.second → ⊥
-
-pub tile-parts : (R : Region) (t : Tile) → is_tile R t ≡ true → TileParts R t
-tile-parts R t e =
-    let p : ((has R t.first && has R t.second && cell_lt t.first t.second) ≡ true) × (are_neighbours R.kind t.first t.second ≡ true) = and_parts _ _ e in
-    let q : ((has R t.first && has R t.second) ≡ true) × (cell_lt t.first t.second ≡ true) = and_parts _ _ p.0 in
-    let r : (has R t.first ≡ true) × (has R t.second ≡ true) = and_parts _ _ q.0 in
-    record {
-      first = has-In R t.first r.0;
-      second = has-In R t.second r.1;
-      order = q.1;
-      near = p.1;
-      differ = λ same. cell_lt-irreflexive t.first (subst (λ (x : Cell). cell_lt t.first x ≡ true) (sym same) q.1);
-    }
 
 -- the step that the two cells of a tile share
 pub tile-step : (R : Region) (t : Tile) → TileParts R t → Share R.kind t.first t.second
@@ -89,30 +69,15 @@ is_crossed R A e = list_any (crosses R.kind e.0 e.1) A
 
 pub crossed-from : (R : Region) (A : List Tile) (t : Tile) (e : Step) → In t A → IsAcross R t e → is_crossed R A e ≡ true
 crossed-from R A t e i p =
-    In-any_from (crosses R.kind e.0 e.1) t A i (and_from _ _ (round-edge R.kind t.first e p.0) (round-edge R.kind t.second e p.1))
+    In-any_of (crosses R.kind e.0 e.1) t A i (and_from _ _ (round-edge R.kind t.first e p.0) (round-edge R.kind t.second e p.1))
 
 pub crossed-parts : (R : Region) (A : List Tile) (e : Step) → IsStepOut R.kind e.0 e.1 → is_crossed R A e ≡ true → (t : Tile) × In t A × IsAcross R t e
-crossed-parts R A e out h = go (In-any_parts (crosses R.kind e.0 e.1) A h)
+crossed-parts R A e out h = go (any-In (crosses R.kind e.0 e.1) A h)
   where
     go : (t : Tile) × In t A × (crosses R.kind e.0 e.1 t ≡ true) → (t : Tile) × In t A × IsAcross R t e
     go (t, i, c) =
         let p : (has_edge R.kind t.first e.0 e.1 ≡ true) × (has_edge R.kind t.second e.0 e.1 ≡ true) = and_parts _ _ c in
         (t, i, (edge-round R.kind t.first e out p.0, edge-round R.kind t.second e out p.1))
-
-pub record TilingParts (R : Region) (A : List Tile) : Type 0 where
-  pub order : linked tile_lt A ≡ true
-  pub tiles : (t : Tile) → In t A → TileParts R t
-  pub covered : (a : Cell) → In a R.cells → (t : Tile) × Only (λ s. covers s a) A t
-
-pub tiling-parts : (R : Region) (A : List Tile) → is_tiling R A ≡ true → TilingParts R A
-tiling-parts R A e =
-    let p : ((linked tile_lt A && list_all (is_tile R) A) ≡ true) × (list_all (λ a. count_by (λ t. covers t a) A == 1) R.cells ≡ true) = and_parts _ _ e in
-    let q : (linked tile_lt A ≡ true) × (list_all (is_tile R) A ≡ true) = and_parts _ _ p.0 in
-    record {
-      order = q.0;
-      tiles = λ t i. tile-parts R t (In-list_all (is_tile R) A t q.1 i);
-      covered = λ a i. only-count_by (λ t. covers t a) A (eqb-true _ _ (In-list_all (λ a. count_by (λ t. covers t a) A == 1) R.cells a p.1 i));
-    }
 
 -- ---- one step round each cell is crossed
 

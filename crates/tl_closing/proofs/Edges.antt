@@ -12,11 +12,12 @@ use Rattle.tl_definitions.specs.Region.{Region, has, present, places, upto, corn
 use Rattle.tl_definitions.specs.Accepted.{IsPlaced, HasEulerOne, edge_count, cell_count}
 use Rattle.tl_definitions.specs.Obstruction.{is_step}
 use Rattle.tl_definitions.proofs.Regions.{any-filter-places}
-use Rattle.tl_definitions.proofs.Sublists.{In, In-any, In-filter, In-flat_map, In-map, cell_eq-refl, Each-at}
+use Rattle.tl_definitions.proofs.Sublists.{In, In-any, In-filter, In-flat_map, In-map, cell_eq-refl, Each-at, In-any_of, any-In, In-flat_map_parts, In-map_parts, In-range}
 use Rattle.tl_definitions.proofs.Ordered.{In-filter_parts}
+use Rattle.tl_definitions.proofs.Corners.{corner_eq-same, corner_eq-refl}
 use Rattle.tl_closing.specs.Closing.{step_along, steps_round}
-use Rattle.tl_closing.proofs.Members.{In-any_from, In-any_parts, In-flat_map_parts, In-map_parts, In-range, Distinct, Distinct-filter, Distinct-map, Distinct-flat_map, Distinct-range, without, In-without, length-without}
-use Rattle.tl_closing.proofs.Steps.{corner_eq-same, corner_eq-refl, IsStepOut, step-one_way}
+use Rattle.tl_closing.proofs.Members.{Distinct, Distinct-filter, Distinct-map, Distinct-flat_map, Distinct-range, without, In-without, length-without}
+use Rattle.tl_closing.proofs.Steps.{IsStepOut, step-one_way}
 use Rattle.tl_closing.proofs.Sides.{parity-of, directed, corners-table, steps-table, left_here, others_here, corner_table, steps-out, steps-corners, corners-near, IsNear, Joins, left-one, same_step}
 
 abbrev pub Step : Type 0
@@ -86,25 +87,25 @@ pub has-In : (R : Region) (a : Cell) → has R a ≡ true → In a R.cells
 has-In R a h = In-any a R.cells h
 
 pub In-has : (R : Region) (a : Cell) → In a R.cells → has R a ≡ true
-In-has R a i = In-any_from (cell_eq a) a R.cells i (cell_eq-refl a)
+In-has R a i = In-any_of (cell_eq a) a R.cells i (cell_eq-refl a)
 
 -- the corners of a region's cells are the corners of the region
 pub corner_of-from : (R : Region) (a : Cell) (v : Corner) → In a R.cells → In v (corners R.kind a) → is_corner_of R v ≡ true
 corner_of-from R a v i j =
-    In-any_from (λ a. list_any (corner_eq v) (corners R.kind a)) a R.cells i (In-any_from (corner_eq v) v (corners R.kind a) j (corner_eq-refl v))
+    In-any_of (λ a. list_any (corner_eq v) (corners R.kind a)) a R.cells i (In-any_of (corner_eq v) v (corners R.kind a) j (corner_eq-refl v))
 
 pub corner_of-parts : (R : Region) (v : Corner) → is_corner_of R v ≡ true → (a : Cell) × In a R.cells × In v (corners R.kind a)
-corner_of-parts R v e = go (In-any_parts (λ a. list_any (corner_eq v) (corners R.kind a)) R.cells e)
+corner_of-parts R v e = go (any-In (λ a. list_any (corner_eq v) (corners R.kind a)) R.cells e)
   where
     at : (a : Cell) → (w : Corner) × In w (corners R.kind a) × (corner_eq v w ≡ true) → In v (corners R.kind a)
     at a (w, j, h) = subst (λ (z : Corner). In z (corners R.kind a)) (sym (corner_eq-same v w h)) j
 
     go : (a : Cell) × In a R.cells × (list_any (corner_eq v) (corners R.kind a) ≡ true) → (a : Cell) × In a R.cells × In v (corners R.kind a)
-    go (a, i, h) = (a, i, at a (In-any_parts (corner_eq v) (corners R.kind a) h))
+    go (a, i, h) = (a, i, at a (any-In (corner_eq v) (corners R.kind a) h))
 
 -- The directed steps of a region are those round its cells.
 pub is_step-parts : (R : Region) (u v : Corner) → is_step R u v ≡ true → (a : Cell) × In a R.cells × In (u, v) (steps_round R.kind a)
-is_step-parts R u v e = start (In-any_parts (corner_eq v) (steps R u) e)
+is_step-parts R u v e = start (any-In (corner_eq v) (steps R u) e)
   where
     either : (a : Cell) (s : Side) → In s (sides R.kind a) → IsStepOut R.kind u v → (step_along s ≡ (u, v)) ⊎ (step_along s ≡ (v, u)) → In (u, v) (steps_round R.kind a)
     either a s j out (inl same) = subst (λ (d : Step). In d (steps_round R.kind a)) same (In-map step_along s (sides R.kind a) j)
@@ -120,7 +121,7 @@ is_step-parts R u v e = start (In-any_parts (corner_eq v) (steps R u) e)
     edge out (s, i, h) = cells s h out (In-flat_map_parts (sides R.kind) s R.cells i)
 
     at : IsStepOut R.kind u v × (is_edge R u v ≡ true) → (a : Cell) × In a R.cells × In (u, v) (steps_round R.kind a)
-    at (out, h) = edge out (In-any_parts (joins_corners u v) (all_sides R) h)
+    at (out, h) = edge out (any-In (joins_corners u v) (all_sides R) h)
 
     start : (w : Corner) × In w (steps R u) × (corner_eq v w ≡ true) → (a : Cell) × In a R.cells × In (u, v) (steps_round R.kind a)
     start (w, i, h) =
@@ -133,11 +134,11 @@ step-In R a e i j = go (In-map_parts step_along e (sides R.kind a) j)
     go (s, k, same) =
         let between : joins_corners e.0 e.1 s ≡ true = subst (λ (d : Step). joins_corners d.0 d.1 s ≡ true) (sym same) (joins-step s) in
         In-filter (is_edge R e.0) e.1 (present (steps_out R.kind e.0))
-        (In-any_from (joins_corners e.0 e.1) s (all_sides R) (In-flat_map (sides R.kind) s a R.cells i k) between)
+        (In-any_of (joins_corners e.0 e.1) s (all_sides R) (In-flat_map (sides R.kind) s a R.cells i k) between)
         (round-step R.kind a e j)
 
 pub is_step-from : (R : Region) (a : Cell) (u v : Corner) → In a R.cells → In (u, v) (steps_round R.kind a) → is_step R u v ≡ true
-is_step-from R a u v i j = In-any_from (corner_eq v) v (steps R u) (step-In R a (u, v) i j) (corner_eq-refl v)
+is_step-from R a u v i j = In-any_of (corner_eq v) v (steps R u) (step-In R a (u, v) i j) (corner_eq-refl v)
 
 -- ---- the lists
 

@@ -11,33 +11,25 @@ use Rattle.tl_definitions.specs.Region.{Region}
 use Rattle.tl_definitions.specs.Accepted.{IsPlaced}
 use Rattle.tl_definitions.specs.Tiling.{tile_eq, tile_lt, is_tile, is_in, tiles, covers}
 use Rattle.tl_definitions.specs.Flip.{exchange}
-use Rattle.tl_definitions.proofs.Regions.{cell_eq-same}
-use Rattle.tl_definitions.proofs.Sublists.{In, In-filter, In-tiles, cell_eq-refl, tile_lt-irreflexive, tile_lt-transitive}
+use Rattle.tl_definitions.proofs.Sublists.{In, In-filter, In-tiles, cell_eq-refl, tile_lt-irreflexive, tile_lt-transitive, In-any_of, any-In}
 use Rattle.tl_definitions.proofs.Ordered.{In-list_all, In-filter_parts, linked-filter, linked-same, Only}
+use Rattle.tl_definitions.proofs.Corners.{corner_eq-same, corner_eq-refl}
+use Rattle.tl_definitions.proofs.Tilings.{TileParts, TilingParts, tile_eq-same}
 use Rattle.tl_closing.specs.Closing.{steps_round}
-use Rattle.tl_closing.proofs.Members.{In-any_from, In-any_parts}
-use Rattle.tl_closing.proofs.Steps.{corner_eq-same, corner_eq-refl}
 use Rattle.tl_closing.proofs.Edges.{Step, In-has, round-corners}
 use Rattle.tl_closing.proofs.Shared.{Share}
-use Rattle.tl_closing.proofs.Crossed.{TileParts, tile-step, TilingParts, is_crossed, covers-from}
+use Rattle.tl_closing.proofs.Crossed.{tile-step, is_crossed, covers-from}
 use Rattle.tl_closing.proofs.Standing.{tile-crossed}
 use Rattle.tl_closing.proofs.TilesInOrder.{tiles-linked}
 
-same-tile : (s t : Tile) → tile_eq s t ≡ true → s ≡ t
-same-tile s t e =
-    let p = and_parts _ _ e in
-    let f : s.first ≡ t.first = cell_eq-same _ _ p.0 in
-    let g : s.second ≡ t.second = cell_eq-same _ _ p.1 in
-    λ i. record { first = f i; second = g i }
-
 is_in-In : (A : List Tile) (t : Tile) → is_in A t ≡ true → In t A
-is_in-In A t e = go (In-any_parts (tile_eq t) A e)
+is_in-In A t e = go (any-In (tile_eq t) A e)
   where
     go : (s : Tile) × In s A × (tile_eq t s ≡ true) → In t A
-    go (s, i, h) = subst (λ (x : Tile). In x A) (sym (same-tile t s h)) i
+    go (s, i, h) = subst (λ (x : Tile). In x A) (sym (tile_eq-same t s h)) i
 
 In-is_in : (A : List Tile) (t : Tile) → In t A → is_in A t ≡ true
-In-is_in A t i = In-any_from (tile_eq t) t A i (and_from _ _ (cell_eq-refl t.first) (cell_eq-refl t.second))
+In-is_in A t i = In-any_of (tile_eq t) t A i (and_from _ _ (cell_eq-refl t.first) (cell_eq-refl t.second))
 
 -- a tile is in a tiling where its step is crossed
 in-crossed : (R : Region) (A : List Tile) → TilingParts R A → (t : Tile) (e : Step) → TileParts R t → In e (steps_round R.kind t.first) → In e (steps_round R.kind t.second)

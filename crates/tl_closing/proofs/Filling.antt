@@ -1,8 +1,8 @@
 -- The heights of a tiling one by one, in raster order: 0 where no cell has a corner, the prefixes on the boundary, and
 -- at an inner corner the height of its left neighbour and a rise that the two cells between them tell.
-use Rattle.std.proofs.Common.{w32, ◌≡◌, ℕ, zero, suc, ◌+◌, ◌-◌, ◌*◌, ◌%◌, ◌^◌, ◌<◌, ◌≤◌, ◌⊎◌, inl, inr, Bool, true, false, not, List, [], ◌∷◌, ◌++◌, map, length, take, filter, flat_map, cond, Option, Some, refl, sym, ◌∙◌, ap, subst, arith, eqb, ℤ, pos, negsuc, ◌+ℤ◌, neg_ℤ, ◌≤ℤ◌}
+use Rattle.std.proofs.Common.{w32, ◌≡◌, ℕ, ◌+◌, ◌-◌, ◌*◌, ◌%◌, ◌^◌, ◌<◌, ◌≤◌, ◌⊎◌, inl, inr, Bool, true, false, not, List, [], ◌∷◌, ◌++◌, length, take, filter, cond, Option, Some, refl, sym, ◌∙◌, ap, subst, arith, eqb, ℤ, pos, negsuc, ◌+ℤ◌, neg_ℤ, ◌≤ℤ◌}
 use Rattle.std.specs.Prelude.{◌==◌, slice_get, option_map, FitsSigned, IsTrue, IsFalse}
-use Rattle.std.specs.List.{list_any, range_with_len}
+use Rattle.std.specs.List.{list_any}
 use Rattle.std.proofs.Math.Numerals.{add-one}
 use Rattle.std.proofs.Math.Nat.{mul-le-mul}
 use Rattle.std.proofs.Math.Seq.{take-suc}
@@ -10,36 +10,33 @@ use Rattle.std.proofs.lemmas.Int.{ints}
 use Rattle.std.proofs.lemmas.Nat.{mul-add-lt}
 use Rattle.std.proofs.lemmas.Option.{slice_get-get_or}
 use Rattle.std.proofs.lemmas.Bool.{and_parts, eqb-true, eqb-false}
-use Rattle.std.proofs.lemmas.List.{length-append}
 use Rattle.std.proofs.lemmas.List.Sums.{length-filter, count_by-le-length}
-use Rattle.std.proofs.lemmas.List.FromFn.{length-map-range_with_len}
 use Rattle.tl_definitions.specs.declared.Kind.{Kind}
 use Rattle.tl_definitions.specs.declared.Kind.TheVariants.{Square, Triangle}
 use Rattle.tl_definitions.specs.declared.Cell.{Cell}
 use Rattle.tl_definitions.specs.declared.Corner.{Corner}
 use Rattle.tl_definitions.specs.declared.Tile.{Tile}
 use Rattle.tl_definitions.specs.Lattice.{cell, corner, cell_eq, corner_eq, is_cell, is_corner, is_dark, Side, side, sides}
-use Rattle.tl_definitions.specs.Region.{Region, has, places, upto, is_inner, is_corner_of}
+use Rattle.tl_definitions.specs.Region.{Region, has, places, is_inner, is_corner_of}
 use Rattle.tl_definitions.specs.Accepted.{Accepted, IsCircuit, IsPlaced, circuit_corners, cell_count}
 use Rattle.tl_definitions.specs.Tiling.{covers, is_tiling, other_cell, partner}
 use Rattle.tl_definitions.specs.Darts.{cell_width}
 use Rattle.tl_definitions.specs.Obstruction.{prefix}
 use Rattle.tl_definitions.specs.Heights.{rise, height, height_count, AreHeights, AreHeightsOf}
-use Rattle.tl_definitions.proofs.Regions.{cell_eq-same, same_test}
-use Rattle.tl_definitions.proofs.Sublists.{In, In-map, cell_eq-refl}
+use Rattle.tl_definitions.proofs.Regions.{cell_eq-same, same_test, cell-same, length-places}
+use Rattle.tl_definitions.proofs.Sublists.{In, In-map, cell_eq-refl, In-any_of}
 use Rattle.tl_definitions.proofs.Ordered.{Only, find-only}
+use Rattle.tl_definitions.proofs.Corners.{corner_eq-refl}
+use Rattle.tl_definitions.proofs.Tilings.{TilingParts, tiling-parts}
 use Rattle.tl_closing.specs.Closing.{step_along, steps_round}
-use Rattle.tl_closing.proofs.Members.{In-any_from}
-use Rattle.tl_closing.proofs.Steps.{corner_eq-refl}
 use Rattle.tl_closing.proofs.Sides.{directed, dark-from, light-from}
 use Rattle.tl_closing.proofs.Centres.{cell-two}
 use Rattle.tl_closing.proofs.Edges.{Step, In-has, Distinct-cells, round-step, is_step-from}
 use Rattle.tl_closing.proofs.Circuit.{boundary-walk}
-use Rattle.tl_closing.proofs.Crossed.{covers-cases, covers-from, IsAcross, is_crossed, crossed-from, crossed-parts, TilingParts, tiling-parts}
+use Rattle.tl_closing.proofs.Crossed.{covers-cases, covers-from, IsAcross, is_crossed, crossed-from, crossed-parts}
 use Rattle.tl_closing.proofs.Heights.{heights-lawful}
-use Rattle.tl_closing.proofs.Near.{cell_same}
-use Rattle.tl_closing.proofs.Standing.{side_ends, among-up, among-down}
-use Rattle.tl_closing.proofs.Ring.{BeginsAt, HasBack, HasRing, inner-or-boundary, inner-ring}
+use Rattle.tl_closing.proofs.Standing.{side_ends}
+use Rattle.tl_closing.proofs.Ring.{BeginsAt, HasBack, HasRing, inner-or-boundary, inner-ring, among-up, among-down}
 use Rattle.tl_closing.proofs.Bounds.{Within, heights-small}
 
 -- ---- places
@@ -168,8 +165,8 @@ between-square : (cells : List Cell) (v : Corner) → HasBack cells v 1 1 → Ha
 between-square cells v (a, i, row, column) (b, j, row', column') = record {
   row = omega (arith, row);
   column = omega (arith, column);
-  upper = subst (λ (x : Cell). In x cells) (cell_same a (upper_cell Square v) (omega (arith, row)) (omega (arith, column))) i;
-  lower = subst (λ (x : Cell). In x cells) (cell_same b (lower_cell Square v) (omega (arith, row')) (omega (arith, column'))) j;
+  upper = subst (λ (x : Cell). In x cells) (cell-same a (upper_cell Square v) (omega (arith, row)) (omega (arith, column))) i;
+  lower = subst (λ (x : Cell). In x cells) (cell-same b (lower_cell Square v) (omega (arith, row')) (omega (arith, column'))) j;
   upper_side = inr (inl (side_ends _ _ _ _ _ (omega (arith, row)) refl (omega (arith, row)) (omega (arith, column))));
   lower_side = inr (inr (inr (inl (side_ends _ _ _ _ _ refl (omega (arith, column)) refl refl))));
   upper_colour = ap (λ (n : ℕ). eqb n 0) (even v.r v.x row column);
@@ -187,8 +184,8 @@ between-triangle : (cells : List Cell) (v : Corner) → (v.r + v.x) % 2 ≡ 1 �
 between-triangle cells v odd (a, i, row, column) (b, j, row', column') = record {
   row = omega (arith, row);
   column = omega (arith, column);
-  upper = subst (λ (x : Cell). In x cells) (cell_same a (upper_cell Triangle v) (omega (arith, row)) (omega (arith, column))) i;
-  lower = subst (λ (x : Cell). In x cells) (cell_same b (lower_cell Triangle v) (omega (arith, row')) (omega (arith, column'))) j;
+  upper = subst (λ (x : Cell). In x cells) (cell-same a (upper_cell Triangle v) (omega (arith, row)) (omega (arith, column))) i;
+  lower = subst (λ (x : Cell). In x cells) (cell-same b (lower_cell Triangle v) (omega (arith, row')) (omega (arith, column'))) j;
   upper_side = among-up (upper_cell Triangle v) _ dark (inr (inl (side_ends _ _ _ _ _ (omega (arith, row)) refl (omega (arith, row)) (omega (arith, column)))));
   lower_side = among-down (lower_cell Triangle v) _ light (inr (inr (inl (side_ends _ _ _ _ _ refl (omega (arith, column)) refl refl))));
   upper_colour = dark;
@@ -209,14 +206,6 @@ inner-between R v inner = go R.kind (and_parts _ _ inner).0 (inner-ring R v inne
     go Triangle e (a, x, y, z, w, b) = between-triangle R.cells v (eqb-true _ _ e) a b
 
 -- ---- a region has no more cells than places
-
-length-places : (rows columns s : ℕ) → length (flat_map (λ r. map (λ c. cell r c) (upto columns)) (range_with_len s rows)) ≡ rows * columns
-length-places zero columns s = omega arith
-length-places (suc rows) columns s =
-    let here : length (map (λ c. cell s c) (upto columns)) ≡ columns = length-map-range_with_len (λ c. cell s c) 0 columns in
-    let rest = length-places rows columns (s + 1) in
-    length-append (map (λ c. cell s c) (upto columns)) (flat_map (λ r. map (λ c. cell r c) (upto columns)) (range_with_len (s + 1) rows))
-    ∙ omega (arith, here, rest)
 
 pub cells-few : (R : Region) → IsPlaced R → cell_count R ≤ R.rows * R.columns
 cells-few R placed = few R.cells placed
@@ -292,7 +281,7 @@ module _ (R : Region) (A : List Tile) (numbers : List ℤ) (accepted : Accepted 
       of_cell : BeginsAt R v ⊎ (is_inner R v ≡ true) → height R numbers v ≡ pos 0
       of_cell (inl (s, i, from)) =
           let on : list_any (corner_eq v) (circuit_corners walk) ≡ true =
-          In-any_from (corner_eq v) s.from (circuit_corners walk)
+          In-any_of (corner_eq v) s.from (circuit_corners walk)
           (In-map (λ (s : Side). s.from) s walk (boundary-walk R (Distinct-cells R accepted.placed) walk circuit s i))
           (subst (λ (u : Corner). corner_eq v u ≡ true) (sym from) (corner_eq-refl v)) in
           cc (on, off)

@@ -19,11 +19,13 @@ use Rattle.tl_definitions.specs.Obstruction.{is_step}
 use Rattle.tl_definitions.specs.Heights.{rise, height, AreHeights, AreLawful}
 use Rattle.tl_definitions.proofs.Sublists.{In}
 use Rattle.tl_definitions.proofs.Ordered.{In-list_all}
+use Rattle.tl_definitions.proofs.Tilings.{tiling-parts}
+use Rattle.tl_definitions.proofs.Corners.{corner-same}
 use Rattle.tl_closing.specs.Closing.{steps_round}
 use Rattle.tl_closing.specs.Standing.{steps_in, falls_from, falls_to}
 use Rattle.tl_closing.specs.Changed.{IsChangedAt}
-use Rattle.tl_closing.proofs.Crossed.{is_crossed, IsCrossing, one-crossed, tiling-parts}
-use Rattle.tl_closing.proofs.Steps.{corner_same, IsStepOut, step-move, step-one_way}
+use Rattle.tl_closing.proofs.Crossed.{is_crossed, IsCrossing, one-crossed}
+use Rattle.tl_closing.proofs.Steps.{IsStepOut, step-move, step-one_way}
 use Rattle.tl_closing.proofs.Sides.{light-from}
 use Rattle.tl_closing.proofs.Edges.{round-step}
 use Rattle.tl_closing.proofs.Ring.{HasRing, inner-ring}
@@ -134,11 +136,11 @@ module _ (R : Region) (A : List Tile) (numbers others : List ℤ) (v : Corner) (
 -- ---- a tiling doesn't stand both high and low
 
 ring-cell : (k : Kind) (cells : List Cell) (v : Corner) → is_corner k v ≡ true → HasRing k cells v → (a : Cell) × In a cells × In v (corners k a)
-ring-cell Square cells v e (p, q, (a, i, r, s), t) = (a, i, inl (corner_same v (corner a.r a.c) (omega (arith, r)) (omega (arith, s))))
+ring-cell Square cells v e (p, q, (a, i, r, s), t) = (a, i, inl (corner-same v (corner a.r a.c) (omega (arith, r)) (omega (arith, s))))
 ring-cell Triangle cells v e (p, q, t, (a, i, r, s), u, w) =
     let odd : (v.r + v.x) % 2 ≡ 1 = eqb-true _ _ e in
     let light : is_dark a ≡ false = light-from a (omega (arith, odd, r, s)) in
-    (a, i, rw light (inl (corner_same v (corner a.r a.c) (omega (arith, r)) (omega (arith, s)))))
+    (a, i, rw light (inl (corner-same v (corner a.r a.c) (omega (arith, r)) (omega (arith, s)))))
 
 pub not-high-and-low : (R : Region) (A : List Tile) (v : Corner) → IsTrue (is_tiling R A) → stands_high R A v ≡ true → stands_low R A v ≡ true → ⊥
 not-high-and-low R A v tiling high low = start (ring-cell R.kind R.cells v (and_parts _ _ inner).0 (inner-ring R v inner))

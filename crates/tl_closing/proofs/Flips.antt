@@ -14,21 +14,22 @@ use Rattle.tl_definitions.specs.Flip.{hi, lo, stands_high, stands_low, put_high,
 use Rattle.tl_definitions.specs.Obstruction.{is_step}
 use Rattle.tl_definitions.specs.Heights.{has_edge, height, AreHeights}
 use Rattle.tl_definitions.proofs.Regions.{same_test}
-use Rattle.tl_definitions.proofs.Sublists.{In, In-map, cell_eq-refl}
+use Rattle.tl_definitions.proofs.Sublists.{In, In-map, cell_eq-refl, any-In}
 use Rattle.tl_definitions.proofs.Ordered.{In-list_all, list_all-In}
+use Rattle.tl_definitions.proofs.Corners.{corner_eq-same, corner_eq-refl}
+use Rattle.tl_definitions.proofs.Tilings.{tile_eq-same, TileParts, TilingParts, tiling-parts}
 use Rattle.tl_closing.specs.Closing.{step_along, steps_round}
 use Rattle.tl_closing.specs.Standing.{steps_in}
 use Rattle.tl_closing.specs.Changed.{IsChangedAt}
-use Rattle.tl_closing.proofs.Members.{In-any_parts}
-use Rattle.tl_closing.proofs.Steps.{corner_eq-same, corner_eq-refl, step-one_way}
+use Rattle.tl_closing.proofs.Steps.{step-one_way}
 use Rattle.tl_closing.proofs.Centres.{step-one, cell-two}
 use Rattle.tl_closing.proofs.Edges.{Step, round-step, step-joins, is_step-from}
-use Rattle.tl_closing.proofs.Crossed.{TileParts, TilingParts, tiling-parts, is_crossed, edge-round, round-edge}
+use Rattle.tl_closing.proofs.Crossed.{is_crossed, edge-round, round-edge}
 use Rattle.tl_closing.proofs.Ring.{inner-ring}
-use Rattle.tl_closing.proofs.Standing.{Claims, claims, dart-out, dart-in, pair_is, tile_eq-same, crossed-told}
+use Rattle.tl_closing.proofs.Standing.{Claims, claims, dart-out, dart-in, pair_is, crossed-told, colours-differ}
 use Rattle.tl_closing.proofs.OffBoundary.{step-out}
 use Rattle.tl_closing.proofs.Changed.{step-ends}
-use Rattle.tl_closing.proofs.RingTiles.{dart-step-out, dart-step-in, colours-differ, not-all, hi-covers, lo-covers}
+use Rattle.tl_closing.proofs.RingTiles.{dart-step-out, dart-step-in, not-all, hi-covers, lo-covers}
 use Rattle.tl_closing.proofs.Exchange.{exchanged}
 
 -- ---- the tiles of hi and lo have their steps at the corner
@@ -48,7 +49,7 @@ tile-edge R A tiling t p x y e differ i j = same_test (tile_eq t (tile_of x y)) 
         (and_from _ _ (round-edge R.kind y e j) (round-edge R.kind x e i))
 
     to : tile_eq t (tile_of x y) ≡ true → (has_edge R.kind t.first e.0 e.1 && has_edge R.kind t.second e.0 e.1) ≡ true
-    to h = both (cell_lt x y) t (tile_eq-same R A tiling t (tile_of x y) h)
+    to h = both (cell_lt x y) t (tile_eq-same t (tile_of x y) h)
 
     from : (has_edge R.kind t.first e.0 e.1 && has_edge R.kind t.second e.0 e.1) ≡ true → tile_eq t (tile_of x y) ≡ true
     from h =
@@ -62,7 +63,7 @@ tile-edge R A tiling t p x y e differ i j = same_test (tile_eq t (tile_of x y)) 
 
 -- an edge of a cell is a step round it, in one direction or the other
 edge-either : (R : Region) (a : Cell) (u w : Corner) → has_edge R.kind a u w ≡ true → In (u, w) (steps_round R.kind a) ⊎ In (w, u) (steps_round R.kind a)
-edge-either R a u w h = start (In-any_parts (joins_corners u w) (sides R.kind a) h)
+edge-either R a u w h = start (any-In (joins_corners u w) (sides R.kind a) h)
   where
     go : (s : Side) → In s (sides R.kind a) → (step_along s ≡ (u, w)) ⊎ (step_along s ≡ (w, u)) → In (u, w) (steps_round R.kind a) ⊎ In (w, u) (steps_round R.kind a)
     go s i (inl same) = inl (subst (λ (d : Step). In d (steps_round R.kind a)) same (In-map step_along s (sides R.kind a) i))

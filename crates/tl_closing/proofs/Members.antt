@@ -1,51 +1,9 @@
--- Members of lists, lists that have each element once, and counts.
-use Rattle.std.proofs.Common.{◌≡◌, ℕ, zero, suc, ◌+◌, ◌<◌, ◌≤◌, ◌⊎◌, inl, inr, Bool, true, false, not, List, [], ◌∷◌, ◌++◌, map, length, filter, flat_map, cond, refl, sym, ◌∙◌, ap, subst, arith}
-use Rattle.std.specs.List.{list_any, range_with_len}
-use Rattle.std.proofs.lemmas.Bool.{or_cases, or_left, or_right, cases_Bool}
-use Rattle.tl_definitions.proofs.Sublists.{In, In-filter, Each}
+-- Lists that have each element once, members taken out, and counts.
+use Rattle.std.proofs.Common.{◌≡◌, ℕ, zero, suc, ◌+◌, ◌≤◌, ◌⊎◌, inl, inr, Bool, true, false, not, List, [], ◌∷◌, ◌++◌, map, length, filter, flat_map, cond, refl, sym, ◌∙◌, ap, subst, arith}
+use Rattle.std.specs.List.{range_with_len}
+use Rattle.std.proofs.lemmas.Bool.{cases_Bool}
+use Rattle.tl_definitions.proofs.Sublists.{In, In-filter, Each, In-append_cases, In-flat_map_parts, In-map_parts}
 use Rattle.tl_definitions.proofs.Ordered.{In-filter_parts}
-
-pub In-any_from : {A : Type 0} (t : A → Bool) (x : A) (xs : List A) → In x xs → t x ≡ true → list_any t xs ≡ true
-In-any_from t x [] i e = absurd i
-In-any_from t x (y ∷ ys) (inl same) e = or_left (t y) _ (sym (ap t same) ∙ e)
-In-any_from t x (y ∷ ys) (inr i) e = or_right (t y) _ (In-any_from t x ys i e)
-
-pub In-any_parts : {A : Type 0} (t : A → Bool) (xs : List A) → list_any t xs ≡ true → (x : A) × In x xs × (t x ≡ true)
-In-any_parts t [] e = cc e
-In-any_parts {A} t (y ∷ ys) e = go (or_cases (t y) _ e) (λ h. In-any_parts t ys h)
-  where
-    go : (t y ≡ true) ⊎ (list_any t ys ≡ true) → (list_any t ys ≡ true → (x : A) × In x ys × (t x ≡ true)) → (x : A) × In x (y ∷ ys) × (t x ≡ true)
-    go (inl h) ih = (y, inl refl, h)
-    go (inr h) ih = let (x, i, k) = ih h in (x, inr i, k)
-
-pub In-append_cases : {A : Type 0} (x : A) (xs ys : List A) → In x (xs ++ ys) → In x xs ⊎ In x ys
-In-append_cases x [] ys i = inr i
-In-append_cases x (z ∷ xs) ys (inl e) = inl (inl e)
-In-append_cases x (z ∷ xs) ys (inr i) = elim (In-append_cases x xs ys i) [ inl j ↦ inl (inr j) | inr j ↦ inr j ]
-
-pub In-flat_map_parts : {A B : Type 0} (f : A → List B) (y : B) (xs : List A) → In y (flat_map f xs) → (x : A) × In x xs × In y (f x)
-In-flat_map_parts f y [] i = absurd i
-In-flat_map_parts {A} f y (x ∷ xs) i = go (In-append_cases y (f x) (flat_map f xs) i) (λ j. In-flat_map_parts f y xs j)
-  where
-    go : In y (f x) ⊎ In y (flat_map f xs) → (In y (flat_map f xs) → (z : A) × In z xs × In y (f z)) → (z : A) × In z (x ∷ xs) × In y (f z)
-    go (inl j) ih = (x, inl refl, j)
-    go (inr j) ih = let (z, k, l) = ih j in (z, inr k, l)
-
-pub In-map_parts : {A B : Type 0} (f : A → B) (y : B) (xs : List A) → In y (map f xs) → (x : A) × In x xs × (y ≡ f x)
-In-map_parts f y [] i = absurd i
-In-map_parts f y (x ∷ xs) (inl e) = (x, inl refl, e)
-In-map_parts f y (x ∷ xs) (inr i) = let (z, j, e) = In-map_parts f y xs i in (z, inr j, e)
-
-pub In-range : (k s n : ℕ) → s ≤ k → k < s + n → In k (range_with_len s n)
-In-range k s zero h l = absurd (omega arith)
-In-range k s (suc n) h l = go (cases s k h) (λ m. In-range k (s + 1) n m (omega (arith, l)))
-  where
-    cases : (s k : ℕ) → s ≤ k → (k ≡ s) ⊎ (s + 1 ≤ k)
-    cases s k h = grind (arith, h)
-
-    go : (k ≡ s) ⊎ (s + 1 ≤ k) → (s + 1 ≤ k → In k (range_with_len (s + 1) n)) → (k ≡ s) ⊎ In k (range_with_len (s + 1) n)
-    go (inl e) ih = inl e
-    go (inr m) ih = inr (ih m)
 
 -- ---- lists that have each element once
 

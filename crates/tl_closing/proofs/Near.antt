@@ -5,16 +5,13 @@ use Rattle.tl_definitions.specs.declared.Kind.TheVariants.{Square, Triangle}
 use Rattle.tl_definitions.specs.declared.Cell.{Cell}
 use Rattle.tl_definitions.specs.declared.Corner.{Corner}
 use Rattle.tl_definitions.specs.Lattice.{cell, is_cell, left, right, above, below, neighbours, are_neighbours, is_dark}
-use Rattle.tl_definitions.proofs.Sublists.{In, Each, Each-at, cell_eq-refl}
+use Rattle.tl_definitions.proofs.Sublists.{In, Each, Each-at, cell_eq-refl, In-any_of}
 use Rattle.tl_definitions.proofs.Neighbours.{neighbours-back}
+use Rattle.tl_definitions.proofs.Darts.{less-of}
+use Rattle.tl_definitions.proofs.Regions.{cell-same}
 use Rattle.tl_closing.specs.Closing.{steps_round}
-use Rattle.tl_closing.proofs.Members.{In-any_from}
-use Rattle.tl_closing.proofs.Steps.{less-some}
 use Rattle.tl_closing.proofs.Sides.{left_step, other_steps, steps-table}
 use Rattle.tl_closing.proofs.Centres.{IsCentre, round-centre, cell-one}
-
-pub cell_same : (a b : Cell) → a.r ≡ b.r → a.c ≡ b.c → a ≡ b
-cell_same a b p q = λ i. record { r = p i; c = q i }
 
 -- where a light cell lies that has a step in common with a dark one
 abbrev Beside : Kind → ℕ → ℕ → ℕ → ℕ → Type 0
@@ -34,17 +31,17 @@ across Triangle r c r' c' = (
   ((λ p. inr (inl (omega (arith, p), omega (arith, p)))), ((λ p. inr (inr (omega (arith, p), omega (arith, p)))), tt)),
 )
 
-left-is : (a b : Cell) → a.r ≡ b.r → a.c ≡ b.c + 1 → left a ≡ Some b
-left-is a b h l = rw (less-some a.c 1 b.c l) (ap (λ (x : Cell). Some x) (cell_same (cell a.r b.c) b h refl))
+pub left-is : (a b : Cell) → a.r ≡ b.r → a.c ≡ b.c + 1 → left a ≡ Some b
+left-is a b h l = rw (less-of a.c 1 b.c l) (ap (λ (x : Cell). Some x) (cell-same (cell a.r b.c) b h refl))
 
-above-is : (a b : Cell) → a.r ≡ b.r + 1 → a.c ≡ b.c → above a ≡ Some b
-above-is a b h l = rw (less-some a.r 1 b.r h) (ap (λ (x : Cell). Some x) (cell_same (cell b.r a.c) b refl l))
+pub above-is : (a b : Cell) → a.r ≡ b.r + 1 → a.c ≡ b.c → above a ≡ Some b
+above-is a b h l = rw (less-of a.r 1 b.r h) (ap (λ (x : Cell). Some x) (cell-same (cell b.r a.c) b refl l))
 
-right-is : (a b : Cell) → a.r ≡ b.r → a.c + 1 ≡ b.c → right a ≡ Some b
-right-is a b h l = ap (λ (x : Cell). Some x) (cell_same (cell a.r (a.c + 1)) b h l)
+pub right-is : (a b : Cell) → a.r ≡ b.r → a.c + 1 ≡ b.c → right a ≡ Some b
+right-is a b h l = ap (λ (x : Cell). Some x) (cell-same (cell a.r (a.c + 1)) b h l)
 
-below-is : (a b : Cell) → a.r + 1 ≡ b.r → a.c ≡ b.c → below a ≡ Some b
-below-is a b h l = ap (λ (x : Cell). Some x) (cell_same (cell (a.r + 1) a.c) b h l)
+pub below-is : (a b : Cell) → a.r + 1 ≡ b.r → a.c ≡ b.c → below a ≡ Some b
+below-is a b h l = ap (λ (x : Cell). Some x) (cell-same (cell (a.r + 1) a.c) b h l)
 
 beside-In : (k : Kind) (a b : Cell) → is_dark a ≡ true → Beside k a.r a.c b.r b.c → In (Some b) (neighbours k a)
 beside-In Square a b dark (inl p) = inl (sym (left-is a b p.0 p.1))
@@ -62,7 +59,7 @@ beside-In Triangle a b dark (inr (inr p)) = inr (inl (sym (right-is a b p.0 p.1)
 dark-light-near : (k : Kind) (a b : Cell) (e : Corner × Corner) → is_dark a ≡ true → is_dark b ≡ false → In e (steps_round k a) → In e (steps_round k b)
     → are_neighbours k a b ≡ true
 dark-light-near k a b e dark light i j =
-    In-any_from (is_cell b) (Some b) (neighbours k a)
+    In-any_of (is_cell b) (Some b) (neighbours k a)
     (beside-In k a b dark
     (Each-at (λ e. IsCentre k false b.r b.c e → Beside k a.r a.c b.r b.c) e (left_step k true a.r a.c ∷ other_steps k true a.r a.c) (across k a.r a.c b.r b.c)
     (subst (λ (t : Bool). In e (left_step k t a.r a.c ∷ other_steps k t a.r a.c)) dark (subst (λ (es : List (Corner × Corner)). In e es) (steps-table k a) i))

@@ -10,15 +10,16 @@ use Rattle.tl_definitions.specs.Lattice.{corner, is_dark, Side, side, sides}
 use Rattle.tl_definitions.specs.Region.{Region, is_boundary, boundary, is_inner}
 use Rattle.tl_definitions.specs.Obstruction.{is_step}
 use Rattle.tl_definitions.proofs.Sublists.{In, In-map}
+use Rattle.tl_definitions.proofs.Corners.{corner-same}
 use Rattle.tl_closing.specs.Closing.{step_along, steps_round}
 use Rattle.tl_closing.specs.Standing.{steps_in}
-use Rattle.tl_closing.proofs.Steps.{corner_same, IsMove, IsStepOut, step-move}
+use Rattle.tl_closing.proofs.Steps.{IsMove, IsStepOut, step-move}
 use Rattle.tl_closing.proofs.Sides.{Parity, parity-of, directed, dark-from, light-from, SameStep, same_step}
 use Rattle.tl_closing.proofs.Edges.{round-step, is_step-parts}
 use Rattle.tl_closing.proofs.Circuit.{side-cell}
 use Rattle.tl_closing.proofs.Boundary.{boundary-parts, boundary-one}
-use Rattle.tl_closing.proofs.Ring.{HasRing, inner-ring}
-use Rattle.tl_closing.proofs.Standing.{side_ends, up_sides, down_sides, among-up, among-down}
+use Rattle.tl_closing.proofs.Ring.{HasRing, inner-ring, up_sides, down_sides, among-up, among-down}
+use Rattle.tl_closing.proofs.Standing.{side_ends}
 
 -- ---- no boundary side begins at an inner corner
 
@@ -137,16 +138,16 @@ inner-off_boundary R v inner s i from = go (boundary-parts R s i)
 
 pub move-in : (k : Kind) (u v : Corner) → IsMove k u v → In u (steps_in k v)
 move-in Square u v (inl (even, column, inl up)) =
-    rw (ne_eqb ((v.r + v.x) % 2) 0 (omega (arith, even, column, up))) (inr (inl (corner_same u (corner (v.r + 1) v.x) up column)))
+    rw (ne_eqb ((v.r + v.x) % 2) 0 (omega (arith, even, column, up))) (inr (inl (corner-same u (corner (v.r + 1) v.x) up column)))
 move-in Square u v (inl (even, column, inr down)) =
-    rw (ne_eqb ((v.r + v.x) % 2) 0 (omega (arith, even, column, down))) (inl (corner_same u (corner (v.r - 1) v.x) (omega (arith, down)) column))
+    rw (ne_eqb ((v.r + v.x) % 2) 0 (omega (arith, even, column, down))) (inl (corner-same u (corner (v.r - 1) v.x) (omega (arith, down)) column))
 move-in Square u v (inr (odd, row, inl back)) =
-    rw (eq-eqb ((v.r + v.x) % 2) 0 (omega (arith, odd, row, back))) (inl (corner_same u (corner v.r (v.x + 1)) row back))
+    rw (eq-eqb ((v.r + v.x) % 2) 0 (omega (arith, odd, row, back))) (inl (corner-same u (corner v.r (v.x + 1)) row back))
 move-in Square u v (inr (odd, row, inr on)) =
-    rw (eq-eqb ((v.r + v.x) % 2) 0 (omega (arith, odd, row, on))) (inr (inl (corner_same u (corner v.r (v.x - 1)) row (omega (arith, on)))))
-move-in Triangle u v (inl (row, on)) = inr (inr (inl (corner_same u (corner v.r (v.x - 2)) row (omega (arith, on)))))
-move-in Triangle u v (inr (inl (up, back))) = inr (inl (corner_same u (corner (v.r + 1) (v.x + 1)) up back))
-move-in Triangle u v (inr (inr (down, back))) = inl (corner_same u (corner (v.r - 1) (v.x + 1)) (omega (arith, down)) back)
+    rw (eq-eqb ((v.r + v.x) % 2) 0 (omega (arith, odd, row, on))) (inr (inl (corner-same u (corner v.r (v.x - 1)) row (omega (arith, on)))))
+move-in Triangle u v (inl (row, on)) = inr (inr (inl (corner-same u (corner v.r (v.x - 2)) row (omega (arith, on)))))
+move-in Triangle u v (inr (inl (up, back))) = inr (inl (corner-same u (corner (v.r + 1) (v.x + 1)) up back))
+move-in Triangle u v (inr (inr (down, back))) = inl (corner-same u (corner (v.r - 1) (v.x + 1)) (omega (arith, down)) back)
 
 pub step-out : (R : Region) (u v : Corner) → IsTrue (is_step R u v) → IsStepOut R.kind u v
 step-out R u v e = go (is_step-parts R u v e)

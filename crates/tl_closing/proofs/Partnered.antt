@@ -15,17 +15,17 @@ use Rattle.tl_definitions.specs.Tiling.{covers, is_tiling, other_cell, tiles_by}
 use Rattle.tl_definitions.specs.Obstruction.{is_step}
 use Rattle.tl_definitions.specs.Heights.{rise, has_edge, climb}
 use Rattle.tl_definitions.proofs.Regions.{cell_eq-same, same_test}
-use Rattle.tl_definitions.proofs.Sublists.{In, In-filter, In-flat_map, cell_eq-refl}
+use Rattle.tl_definitions.proofs.Sublists.{In, In-filter, In-flat_map, cell_eq-refl, In-any_of, any-In, In-map_parts}
 use Rattle.tl_definitions.proofs.Ordered.{Only, find-only}
 use Rattle.tl_definitions.proofs.Partners.{AreMatched, stands_in_one, tiles_by-tiling}
+use Rattle.tl_definitions.proofs.Tilings.{tiling-parts}
 use Rattle.tl_closing.specs.Closing.{step_along, steps_round}
-use Rattle.tl_closing.proofs.Members.{In-any_from, In-any_parts, In-map_parts}
 use Rattle.tl_closing.proofs.Centres.{cell-two}
 use Rattle.tl_closing.proofs.Edges.{Step, has-In, In-has, round-step, is_step-parts}
 use Rattle.tl_closing.proofs.Near.{shared-near}
 use Rattle.tl_closing.proofs.Boundary.{inside-two, rises-at-to}
 use Rattle.tl_closing.proofs.Circuit.{RisesAt}
-use Rattle.tl_closing.proofs.Crossed.{edge-round, round-edge, is_crossed, crossed-from, IsAcross, IsCrossing, one-crossed, tiling-parts}
+use Rattle.tl_closing.proofs.Crossed.{edge-round, round-edge, is_crossed, crossed-from, IsAcross, IsCrossing, one-crossed}
 use Rattle.tl_closing.proofs.Falls.{falls, IsMild, falls-by, one-falls, lt-true}
 
 -- whether b lies across a step of a that falls
@@ -50,7 +50,7 @@ module _ (R : Region) (h : Corner → ℤ) (placed : IsPlaced R) (mild : IsMild 
       passes : is_across R h a b ≡ true
       passes =
           and_from _ _
-          (In-any_from (λ e. falls h e && has_edge R.kind b e.0 e.1) e (steps_round R.kind a) m (and_from _ _ fall (round-edge R.kind b e n)))
+          (In-any_of (λ e. falls h e && has_edge R.kind b e.0 e.1) e (steps_round R.kind a) m (and_from _ _ fall (round-edge R.kind b e n)))
           (ap not (differ-eq a b differ))
 
       step_of : (d : Step) × Only (falls h) (steps_round R.kind a) d → (f : Step) → In f (steps_round R.kind a) → falls h f ≡ true → f ≡ e
@@ -71,7 +71,7 @@ module _ (R : Region) (h : Corner → ℤ) (placed : IsPlaced R) (mild : IsMild 
       only c k g =
           let p : (list_any (λ e. falls h e && has_edge R.kind c e.0 e.1) (steps_round R.kind a) ≡ true) × (not (cell_eq a c) ≡ true) = and_parts _ _ g in
           same c (λ q. cc (not-true _ p.1, subst (λ (x : Cell). cell_eq a x ≡ true) q (cell_eq-refl a))) k
-          (In-any_parts (λ e. falls h e && has_edge R.kind c e.0 e.1) (steps_round R.kind a) p.0)
+          (any-In (λ e. falls h e && has_edge R.kind c e.0 e.1) (steps_round R.kind a) p.0)
 
   -- across the step of a cell that falls there is another cell of the region
   pub record Mate (a : Cell) : Type 0 where

@@ -10,10 +10,10 @@ use Rattle.tl_definitions.specs.Lattice.{corner, cell_at, cell_back, less, is_co
 use Rattle.tl_definitions.specs.Region.{Region, has_at, all_sides, is_boundary, boundary, is_corner_of, is_inner}
 use Rattle.tl_definitions.specs.Obstruction.{is_step}
 use Rattle.tl_definitions.proofs.Sublists.{In, In-filter, In-flat_map, In-map}
+use Rattle.tl_definitions.proofs.Corners.{corner-same}
+use Rattle.tl_definitions.proofs.Darts.{less-of, less-some, cell_at-some}
 use Rattle.tl_closing.specs.Closing.{step_along, steps_round}
-use Rattle.tl_closing.proofs.Steps.{corner_same, less-some, less-parts}
 use Rattle.tl_closing.proofs.Sides.{dark-from, light-from, directed, corners-table, corner_table}
-use Rattle.tl_closing.proofs.Shared.{cell_at-parts}
 use Rattle.tl_closing.proofs.Centres.{IsCentre, round-centre, cell-one}
 use Rattle.tl_closing.proofs.Edges.{has-In, In-has, round-corners, corner_of-from, corner_of-parts, corner-near, is_step-from}
 use Rattle.tl_closing.proofs.Boundary.{inside-two}
@@ -61,21 +61,38 @@ HasRing Triangle cells v =
     HasBack cells v 1 2 × HasBack cells v 1 1 × HasBack cells v 1 0 × HasBack cells v 0 0 × HasBack cells v 0 1 × HasBack cells v 0 2
 
 -- the cell across a side of a square, by the side
-over-right : (t : Bool) (r c r' c' : ℕ) → IsCentre Square (not t) r' c' (directed t (corner (r + 1) (c + 1)) (corner r (c + 1))) → (r' ≡ r) × (c' ≡ c + 1)
+pub over-right : (t : Bool) (r c r' c' : ℕ) → IsCentre Square (not t) r' c' (directed t (corner (r + 1) (c + 1)) (corner r (c + 1))) → (r' ≡ r) × (c' ≡ c + 1)
 over-right true r c r' c' p = (omega (arith, p), omega (arith, p))
 over-right false r c r' c' p = (omega (arith, p), omega (arith, p))
 
-over-bottom : (t : Bool) (r c r' c' : ℕ) → IsCentre Square (not t) r' c' (directed t (corner (r + 1) c) (corner (r + 1) (c + 1))) → (r' ≡ r + 1) × (c' ≡ c)
+pub over-bottom : (t : Bool) (r c r' c' : ℕ) → IsCentre Square (not t) r' c' (directed t (corner (r + 1) c) (corner (r + 1) (c + 1))) → (r' ≡ r + 1) × (c' ≡ c)
 over-bottom true r c r' c' p = (omega (arith, p), omega (arith, p))
 over-bottom false r c r' c' p = (omega (arith, p), omega (arith, p))
 
-over-left : (t : Bool) (r c r' c' : ℕ) → IsCentre Square (not t) r' c' (directed t (corner r c) (corner (r + 1) c)) → (r' ≡ r) × (c' + 1 ≡ c)
+pub over-left : (t : Bool) (r c r' c' : ℕ) → IsCentre Square (not t) r' c' (directed t (corner r c) (corner (r + 1) c)) → (r' ≡ r) × (c' + 1 ≡ c)
 over-left true r c r' c' p = (omega (arith, p), omega (arith, p))
 over-left false r c r' c' p = (omega (arith, p), omega (arith, p))
 
-over-top : (t : Bool) (r c r' c' : ℕ) → IsCentre Square (not t) r' c' (directed t (corner r (c + 1)) (corner r c)) → (r' + 1 ≡ r) × (c' ≡ c)
+pub over-top : (t : Bool) (r c r' c' : ℕ) → IsCentre Square (not t) r' c' (directed t (corner r (c + 1)) (corner r c)) → (r' + 1 ≡ r) × (c' ≡ c)
 over-top true r c r' c' p = (omega (arith, p), omega (arith, p))
 over-top false r c r' c' p = (omega (arith, p), omega (arith, p))
+
+-- the sides of a triangle that points up, and of one that points down
+abbrev pub up_sides : Cell → List Side
+up_sides a =
+    side a (corner a.r (a.c + 1)) (corner (a.r + 1) a.c) ∷ side a (corner (a.r + 1) a.c) (corner (a.r + 1) (a.c + 2))
+    ∷ side a (corner (a.r + 1) (a.c + 2)) (corner a.r (a.c + 1)) ∷ []
+
+abbrev pub down_sides : Cell → List Side
+down_sides a =
+    side a (corner a.r a.c) (corner (a.r + 1) (a.c + 1)) ∷ side a (corner (a.r + 1) (a.c + 1)) (corner a.r (a.c + 2))
+    ∷ side a (corner a.r (a.c + 2)) (corner a.r a.c) ∷ []
+
+pub among-up : (a : Cell) (s : Side) → is_dark a ≡ true → In s (up_sides a) → In s (sides Triangle a)
+among-up a s dark i = subst (λ (t : Bool). In s (cond t (up_sides a) (down_sides a))) (sym dark) i
+
+pub among-down : (a : Cell) (s : Side) → is_dark a ≡ false → In s (down_sides a) → In s (sides Triangle a)
+among-down a s light i = subst (λ (t : Bool). In s (cond t (up_sides a) (down_sides a))) (sym light) i
 
 -- Where each cell of the list that has v as a corner has another across its side that begins at v, or else Q,
 -- the whole ring is there, or else Q.
@@ -92,22 +109,22 @@ module _ (cells : List Cell) (v : Corner) (Q : Type 0) where
   module _ (turns : Turns Square) where
     right-of : HasBack cells v 1 1 → Q ⊎ HasBack cells v 1 0
     right-of (a, i, row, column) =
-        then (turns a (side a (corner (a.r + 1) (a.c + 1)) (corner a.r (a.c + 1))) i (inr (inr (inl refl))) (corner_same _ v row column))
+        then (turns a (side a (corner (a.r + 1) (a.c + 1)) (corner a.r (a.c + 1))) i (inr (inr (inl refl))) (corner-same _ v row column))
         (λ found. let (b, j, c) = found in let p = over-right (is_dark a) a.r a.c b.r b.c c in inr (b, j, omega (arith, row, p.0), omega (arith, column, p.1)))
 
     below-of : HasBack cells v 1 0 → Q ⊎ HasBack cells v 0 0
     below-of (a, i, row, column) =
-        then (turns a (side a (corner (a.r + 1) a.c) (corner (a.r + 1) (a.c + 1))) i (inr (inl refl)) (corner_same _ v row (omega (arith, column))))
+        then (turns a (side a (corner (a.r + 1) a.c) (corner (a.r + 1) (a.c + 1))) i (inr (inl refl)) (corner-same _ v row (omega (arith, column))))
         (λ found. let (b, j, c) = found in let p = over-bottom (is_dark a) a.r a.c b.r b.c c in inr (b, j, omega (arith, row, p.0), omega (arith, column, p.1)))
 
     left-of : HasBack cells v 0 0 → Q ⊎ HasBack cells v 0 1
     left-of (a, i, row, column) =
-        then (turns a (side a (corner a.r a.c) (corner (a.r + 1) a.c)) i (inl refl) (corner_same _ v (omega (arith, row)) (omega (arith, column))))
+        then (turns a (side a (corner a.r a.c) (corner (a.r + 1) a.c)) i (inl refl) (corner-same _ v (omega (arith, row)) (omega (arith, column))))
         (λ found. let (b, j, c) = found in let p = over-left (is_dark a) a.r a.c b.r b.c c in inr (b, j, omega (arith, row, p.0), omega (arith, column, p.1)))
 
     above-of : HasBack cells v 0 1 → Q ⊎ HasBack cells v 1 1
     above-of (a, i, row, column) =
-        then (turns a (side a (corner a.r (a.c + 1)) (corner a.r a.c)) i (inr (inr (inr (inl refl)))) (corner_same _ v (omega (arith, row)) column))
+        then (turns a (side a (corner a.r (a.c + 1)) (corner a.r a.c)) i (inr (inr (inr (inl refl)))) (corner-same _ v (omega (arith, row)) column))
         (λ found. let (b, j, c) = found in let p = over-top (is_dark a) a.r a.c b.r b.c c in inr (b, j, omega (arith, row, p.0), omega (arith, column, p.1)))
 
     whole-square : HasBack cells v 1 1 → Q ⊎ HasRing Square cells v
@@ -135,59 +152,43 @@ module _ (cells : List Cell) (v : Corner) (Q : Type 0) where
         then (turns a (side a v w) i j refl)
         (λ found. let (b, k, c) = found in inr (b, k, subst (λ (t : Bool). IsCentre Triangle (not t) b.r b.c (directed t v w)) light c))
 
-    abbrev up_sides : Cell → List Side
-    up_sides a =
-        side a (corner a.r (a.c + 1)) (corner (a.r + 1) a.c) ∷ side a (corner (a.r + 1) a.c) (corner (a.r + 1) (a.c + 2))
-        ∷ side a (corner (a.r + 1) (a.c + 2)) (corner a.r (a.c + 1)) ∷ []
-
-    abbrev down_sides : Cell → List Side
-    down_sides a =
-        side a (corner a.r a.c) (corner (a.r + 1) (a.c + 1)) ∷ side a (corner (a.r + 1) (a.c + 1)) (corner a.r (a.c + 2))
-        ∷ side a (corner a.r (a.c + 2)) (corner a.r a.c) ∷ []
-
     side_same : (a : Cell) (u w : Corner) → u ≡ v → side a v w ≡ side a u w
     side_same a u w e = λ i. side a (sym e i) w
-
-    among_up : (a : Cell) (s : Side) → is_dark a ≡ true → In s (up_sides a) → In s (sides Triangle a)
-    among_up a s dark i = subst (λ (t : Bool). In s (cond t (up_sides a) (down_sides a))) (sym dark) i
-
-    among_down : (a : Cell) (s : Side) → is_dark a ≡ false → In s (down_sides a) → In s (sides Triangle a)
-    among_down a s light i = subst (λ (t : Bool). In s (cond t (up_sides a) (down_sides a))) (sym light) i
 
     turn-1 : HasBack cells v 1 2 → Q ⊎ HasBack cells v 1 1
     turn-1 (a, i, row, column) =
         let dark : is_dark a ≡ true = dark-from a (omega (arith, odd, row, column)) in
-        then (from_dark a (corner a.r (a.c + 1)) i dark (among_up a _ dark (inr (inr (inl (side_same a _ _ (corner_same _ v row column)))))))
+        then (from_dark a (corner a.r (a.c + 1)) i dark (among-up a _ dark (inr (inr (inl (side_same a _ _ (corner-same _ v row column)))))))
         (λ found. let (b, j, c) = found in inr (b, j, omega (arith, row, column, c), omega (arith, row, column, c)))
 
     turn-2 : HasBack cells v 1 1 → Q ⊎ HasBack cells v 1 0
     turn-2 (a, i, row, column) =
         let light : is_dark a ≡ false = light-from a (omega (arith, odd, row, column)) in
-        then (from_light a (corner a.r (a.c + 2)) i light (among_down a _ light (inr (inl (side_same a _ _ (corner_same _ v row column))))))
+        then (from_light a (corner a.r (a.c + 2)) i light (among-down a _ light (inr (inl (side_same a _ _ (corner-same _ v row column))))))
         (λ found. let (b, j, c) = found in inr (b, j, omega (arith, row, column, c), omega (arith, row, column, c)))
 
     turn-3 : HasBack cells v 1 0 → Q ⊎ HasBack cells v 0 0
     turn-3 (a, i, row, column) =
         let dark : is_dark a ≡ true = dark-from a (omega (arith, odd, row, column)) in
-        then (from_dark a (corner (a.r + 1) (a.c + 2)) i dark (among_up a _ dark (inr (inl (side_same a _ _ (corner_same _ v row (omega (arith, column))))))))
+        then (from_dark a (corner (a.r + 1) (a.c + 2)) i dark (among-up a _ dark (inr (inl (side_same a _ _ (corner-same _ v row (omega (arith, column))))))))
         (λ found. let (b, j, c) = found in inr (b, j, omega (arith, row, column, c), omega (arith, row, column, c)))
 
     turn-4 : HasBack cells v 0 0 → Q ⊎ HasBack cells v 0 1
     turn-4 (a, i, row, column) =
         let light : is_dark a ≡ false = light-from a (omega (arith, odd, row, column)) in
-        then (from_light a (corner (a.r + 1) (a.c + 1)) i light (among_down a _ light (inl (side_same a _ _ (corner_same _ v (omega (arith, row)) (omega (arith, column)))))))
+        then (from_light a (corner (a.r + 1) (a.c + 1)) i light (among-down a _ light (inl (side_same a _ _ (corner-same _ v (omega (arith, row)) (omega (arith, column)))))))
         (λ found. let (b, j, c) = found in inr (b, j, omega (arith, row, column, c), omega (arith, row, column, c)))
 
     turn-5 : HasBack cells v 0 1 → Q ⊎ HasBack cells v 0 2
     turn-5 (a, i, row, column) =
         let dark : is_dark a ≡ true = dark-from a (omega (arith, odd, row, column)) in
-        then (from_dark a (corner (a.r + 1) a.c) i dark (among_up a _ dark (inl (side_same a _ _ (corner_same _ v (omega (arith, row)) column)))))
+        then (from_dark a (corner (a.r + 1) a.c) i dark (among-up a _ dark (inl (side_same a _ _ (corner-same _ v (omega (arith, row)) column)))))
         (λ found. let (b, j, c) = found in inr (b, j, omega (arith, row, column, c), omega (arith, row, column, c)))
 
     turn-6 : HasBack cells v 0 2 → Q ⊎ HasBack cells v 1 2
     turn-6 (a, i, row, column) =
         let light : is_dark a ≡ false = light-from a (omega (arith, odd, row, column)) in
-        then (from_light a (corner a.r a.c) i light (among_down a _ light (inr (inr (inl (side_same a _ _ (corner_same _ v (omega (arith, row)) column)))))))
+        then (from_light a (corner a.r a.c) i light (among-down a _ light (inr (inr (inl (side_same a _ _ (corner-same _ v (omega (arith, row)) column)))))))
         (λ found. let (b, j, c) = found in inr (b, j, omega (arith, row, column, c), omega (arith, row, column, c)))
 
     whole-triangle : HasBack cells v 1 2 → Q ⊎ HasRing Triangle cells v
@@ -222,7 +223,7 @@ module _ (cells : List Cell) (v : Corner) (Q : Type 0) where
 
 pub back-is : (v : Corner) (rows columns : ℕ) (a : Cell) → a.r + rows ≡ v.r → a.c + columns ≡ v.x → cell_back v rows columns ≡ Some a
 back-is v rows columns a row column =
-    ap (λ (o : Option ℕ). cell_at o (less v.x columns)) (less-some v.r rows a.r (sym row)) ∙ ap (λ (o : Option ℕ). cell_at (Some a.r) o) (less-some v.x columns a.c (sym column))
+    ap (λ (o : Option ℕ). cell_at o (less v.x columns)) (less-of v.r rows a.r (sym row)) ∙ ap (λ (o : Option ℕ). cell_at (Some a.r) o) (less-of v.x columns a.c (sym column))
 
 back-has : (R : Region) (v : Corner) (rows columns : ℕ) → HasBack R.cells v rows columns → has_at R (cell_back v rows columns) ≡ true
 back-has R v rows columns (a, i, row, column) = ap (has_at R) (back-is v rows columns a row column) ∙ In-has R a i
@@ -233,8 +234,8 @@ has-back R v rows columns e = go (cell_back v rows columns) refl e
     go : (o : Option Cell) → cell_back v rows columns ≡ o → has_at R o ≡ true → HasBack R.cells v rows columns
     go None f g = cc g
     go (Some a) f g =
-        let p = cell_at-parts (less v.r rows) (less v.x columns) a f in
-        (a, has-In R a g, sym (less-parts v.r rows a.r p.0), sym (less-parts v.x columns a.c p.1))
+        let p = cell_at-some (less v.r rows) (less v.x columns) a f in
+        (a, has-In R a g, sym (less-some v.r rows a.r p.0), sym (less-some v.x columns a.c p.1))
 
 ring-inner : (R : Region) (v : Corner) (k : Kind) → HasRing k R.cells v → list_all (has_at R) (ring k v) ≡ true
 ring-inner R v Square (p, q, r, s) =
@@ -300,11 +301,11 @@ side-to a w u v e = λ i. side a w (sym e i)
 
 side-from-left : (k : Kind) (cells : List Cell) (v : Corner) → is_corner k v ≡ true → HasRing k cells v → SideFromLeft k cells v
 side-from-left Square cells v odd ((a, i, row, column), p, q, r) =
-    (a, i, (corner (a.r + 1) a.c, inr (inl (side-to a _ _ v (corner_same _ v row column))), row, column))
+    (a, i, (corner (a.r + 1) a.c, inr (inl (side-to a _ _ v (corner-same _ v row column))), row, column))
 side-from-left Triangle cells v odd ((a, i, row, column), p, q, r, s, t) =
     let odd_sum : (v.r + v.x) % 2 ≡ 1 = eqb-true _ _ odd in
     let dark : is_dark a ≡ true = dark-from a (omega (arith, odd_sum, row, column)) in
-    (a, i, (corner (a.r + 1) a.c, rw dark (inr (inl (side-to a _ _ v (corner_same _ v row column)))), row, column))
+    (a, i, (corner (a.r + 1) a.c, rw dark (inr (inl (side-to a _ _ v (corner-same _ v row column)))), row, column))
 
 pub inner-left : (R : Region) (v : Corner) → is_inner R v ≡ true → (w : Corner) × LeftNeighbour R v w
 inner-left R v e = go (side-from-left R.kind R.cells v (and_parts _ _ e).0 (inner-ring R v e))

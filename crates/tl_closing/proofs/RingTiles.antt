@@ -24,7 +24,7 @@ use Rattle.tl_closing.proofs.Crossed.{covers-cases, covers-from, edge-round, rou
 use Rattle.tl_closing.proofs.OffBoundary.{move-in}
 use Rattle.tl_closing.proofs.Edges.{Step, round-step}
 use Rattle.tl_closing.proofs.Ring.{inner-ring}
-use Rattle.tl_closing.proofs.Standing.{IsDart, claims, Claims}
+use Rattle.tl_closing.proofs.Standing.{IsDart, claims, Claims, colours-differ}
 
 -- the steps round a cell are a cycle: one begins at each corner of the cell, and one ends there
 abbrev Begins : Corner → List Step → Type 0
@@ -108,9 +108,6 @@ dart-step-in R v w a b g e f = (
   subst (λ (t : Bool). In (directed t v w) (steps_round R.kind a)) e (In-map step_along (side a v w) (sides R.kind a) g.first),
   subst (λ (t : Bool). In (directed t w v) (steps_round R.kind b)) f (In-map step_along (side b w v) (sides R.kind b) g.second),
 )
-
-pub colours-differ : (a b : Cell) → is_dark a ≡ true → is_dark b ≡ false → a ≡ b → ⊥
-colours-differ a b e f same = cc (e, f, ap is_dark same)
 
 module _ (R : Region) (v : Corner) (inner : is_inner R v ≡ true) where
   covering : (a : Cell) → Claims R.cells (λ s. not (covers s a)) (λ u w. not (has_edge R.kind a u w)) v R.kind

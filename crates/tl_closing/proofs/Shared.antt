@@ -1,16 +1,16 @@
 -- Neighbours have a step in common, and so a corner.
-use Rattle.std.proofs.Common.{◌≡◌, ℕ, ◌+◌, inl, inr, Bool, true, false, not, cond, List, ◌∷◌, Option, Some, None, refl, sym, ap, subst, arith}
+use Rattle.std.proofs.Common.{◌≡◌, ℕ, ◌+◌, inl, inr, Bool, true, false, not, cond, List, ◌∷◌, Option, Some, refl, sym, ap, subst, arith}
 use Rattle.std.proofs.lemmas.Bool.{not-false}
 use Rattle.tl_definitions.specs.declared.Kind.{Kind}
 use Rattle.tl_definitions.specs.declared.Kind.TheVariants.{Square, Triangle}
 use Rattle.tl_definitions.specs.declared.Cell.{Cell}
 use Rattle.tl_definitions.specs.declared.Corner.{Corner}
-use Rattle.tl_definitions.specs.Lattice.{cell, corner, cell_at, is_cell, less, left, right, above, below, neighbours, are_neighbours, is_dark}
-use Rattle.tl_definitions.proofs.Sublists.{In}
-use Rattle.tl_definitions.proofs.Regions.{cell_eq-same}
+use Rattle.tl_definitions.specs.Lattice.{cell, corner, is_cell, less, left, right, above, below, neighbours, are_neighbours, is_dark}
+use Rattle.tl_definitions.proofs.Sublists.{In, any-In}
+use Rattle.tl_definitions.proofs.Regions.{is_cell-some}
+use Rattle.tl_definitions.proofs.Corners.{corner-same}
+use Rattle.tl_definitions.proofs.Darts.{less-some, cell_at-some}
 use Rattle.tl_closing.specs.Closing.{steps_round}
-use Rattle.tl_closing.proofs.Members.{In-any_parts}
-use Rattle.tl_closing.proofs.Steps.{corner_same, less-parts}
 use Rattle.tl_closing.proofs.Sides.{Parity, parity-of, dark-from, light-from, left_step, other_steps, steps-table}
 
 -- a cell beside another has the other colour
@@ -40,7 +40,7 @@ share-from k a b colour (e, i, j) = (
 )
 
 same_ends : (u v u' v' : Corner) → u.r ≡ u'.r → u.x ≡ u'.x → v.r ≡ v'.r → v.x ≡ v'.x → ◌≡◌ {A = Corner × Corner} (u, v) (u', v')
-same_ends u v u' v' p q s t = λ i. (corner_same u u' p q i, corner_same v v' s t i)
+same_ends u v u' v' p q s t = λ i. (corner-same u u' p q i, corner-same v v' s t i)
 
 -- the left step of a cell is one of the cell on its left
 left-table : (k : Kind) (t : Bool) (r c r' c' : ℕ) → r ≡ r' → c ≡ c' + 1 → ShareTable k t (not t) r c r' c'
@@ -80,23 +80,11 @@ share-below-triangle a b dark row column =
     share-from Triangle a b (below-colour a b row column)
     (subst (λ (t : Bool). ShareTable Triangle t (not t) a.r a.c b.r b.c) (sym dark) (below-triangle a.r a.c b.r b.c row column))
 
-is_cell-some : (b : Cell) (o : Option Cell) → is_cell b o ≡ true → o ≡ Some b
-is_cell-some b None e = cc e
-is_cell-some b (Some c) e = ap (λ (z : Cell). Some z) (sym (cell_eq-same b c e))
-
-pub cell_at-parts : (o p : Option ℕ) (b : Cell) → cell_at o p ≡ Some b → (o ≡ Some b.r) × (p ≡ Some b.c)
-cell_at-parts (Some r) (Some c) b e = (ap (λ (x : Cell). Some x.r) (inside e), ap (λ (x : Cell). Some x.c) (inside e))
-  where
-    inside : Some (cell r c) ≡ Some b → cell r c ≡ b
-    inside e = cc e
-cell_at-parts (Some r) None b e = cc e
-cell_at-parts None p b e = cc e
-
 pub left-coordinates : (a b : Cell) → left a ≡ Some b → (a.r ≡ b.r) × (a.c ≡ b.c + 1)
-left-coordinates a b e = let p = cell_at-parts (Some a.r) (less a.c 1) b e in (cc (p.0), less-parts a.c 1 b.c p.1)
+left-coordinates a b e = let p = cell_at-some (Some a.r) (less a.c 1) b e in (cc (p.0), less-some a.c 1 b.c p.1)
 
 pub above-coordinates : (a b : Cell) → above a ≡ Some b → (b.r + 1 ≡ a.r) × (b.c ≡ a.c)
-above-coordinates a b e = let p = cell_at-parts (less a.r 1) (Some a.c) b e in (sym (less-parts a.r 1 b.r p.0), cc (p.1))
+above-coordinates a b e = let p = cell_at-some (less a.r 1) (Some a.c) b e in (sym (less-some a.r 1 b.r p.0), cc (p.1))
 
 right-coordinates : (a b : Cell) → right a ≡ Some b → (b.r ≡ a.r) × (b.c ≡ a.c + 1)
 right-coordinates a b e = let same : cell a.r (a.c + 1) ≡ b = cc e in (ap (λ (x : Cell). x.r) (sym same), ap (λ (x : Cell). x.c) (sym same))
@@ -105,7 +93,7 @@ below-coordinates : (a b : Cell) → below a ≡ Some b → (a.r + 1 ≡ b.r) ×
 below-coordinates a b e = let same : cell (a.r + 1) a.c ≡ b = cc e in (ap (λ (x : Cell). x.r) same, ap (λ (x : Cell). x.c) same)
 
 pub neighbours-share : (k : Kind) (a b : Cell) → are_neighbours k a b ≡ true → Share k a b
-neighbours-share k a b e = start k (In-any_parts (is_cell b) (neighbours k a) e)
+neighbours-share k a b e = start k (any-In (is_cell b) (neighbours k a) e)
   where
     dark : (b : Cell) → not (is_dark b) ≡ false → is_dark b ≡ true
     dark b = not-false (is_dark b)

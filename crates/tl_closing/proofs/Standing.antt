@@ -10,31 +10,35 @@ use Rattle.tl_definitions.specs.declared.Kind.TheVariants.{Square, Triangle}
 use Rattle.tl_definitions.specs.declared.Cell.{Cell}
 use Rattle.tl_definitions.specs.declared.Corner.{Corner}
 use Rattle.tl_definitions.specs.declared.Tile.{Tile}
-use Rattle.tl_definitions.specs.Lattice.{corner, cell_lt, is_corner, is_dark, ring, steps_out, Side, side, sides}
+use Rattle.tl_definitions.specs.Lattice.{corner, cell_lt, is_corner, is_dark, ring, steps_out, side, sides}
 use Rattle.tl_definitions.specs.Region.{Region, present, is_inner}
 use Rattle.tl_definitions.specs.Accepted.{turned}
 use Rattle.tl_definitions.specs.Tiling.{tile_of, tile_eq, is_in, is_tiling}
 use Rattle.tl_definitions.specs.Flip.{hi, lo, stands_high, stands_low}
 use Rattle.tl_definitions.specs.Obstruction.{is_step}
 use Rattle.tl_definitions.specs.Heights.{rise, climb}
-use Rattle.tl_definitions.proofs.Regions.{cell_eq-same, same_test}
-use Rattle.tl_definitions.proofs.Sublists.{In, In-map, cell_eq-refl, cell_lt-irreflexive, cell_lt-transitive}
+use Rattle.tl_definitions.proofs.Regions.{same_test}
+use Rattle.tl_definitions.proofs.Sublists.{In, In-map, cell_eq-refl, cell_lt-irreflexive, cell_lt-transitive, In-any_of, any-In}
+use Rattle.tl_definitions.proofs.Corners.{corner-same}
+use Rattle.tl_definitions.proofs.Darts.{less-of}
+use Rattle.tl_definitions.proofs.Tilings.{tile_eq-same, TilingParts, tiling-parts}
 use Rattle.tl_closing.specs.Closing.{step_along, steps_round}
 use Rattle.tl_closing.specs.Standing.{steps_in}
-use Rattle.tl_closing.proofs.Members.{In-any_from, In-any_parts}
-use Rattle.tl_closing.proofs.Steps.{corner_same, less-some}
 use Rattle.tl_closing.proofs.Sides.{directed, dark-from, light-from}
 use Rattle.tl_closing.proofs.Centres.{cell-two}
 use Rattle.tl_closing.proofs.Edges.{Step, round-step, is_step-from}
 use Rattle.tl_closing.proofs.Falls.{lt-true, lt-false}
-use Rattle.tl_closing.proofs.Crossed.{TilingParts, tiling-parts, is_crossed, crossed-from, crossed-parts, IsAcross}
-use Rattle.tl_closing.proofs.Ring.{HasRing, back-is, inner-ring}
+use Rattle.tl_closing.proofs.Crossed.{is_crossed, crossed-from, crossed-parts, IsAcross}
+use Rattle.tl_closing.proofs.Ring.{HasRing, back-is, inner-ring, among-up, among-down}
 
 -- two cells of a ring, one after the other, share the edge between the corner v and w
 pub record IsDart (cells : List Cell) (k : Kind) (v w : Corner) (a b : Cell) : Type 0 where
   pub inside : In a cells
   pub first : In (side a v w) (sides k a)
   pub second : In (side b w v) (sides k b)
+
+pub colours-differ : (a b : Cell) → is_dark a ≡ true → is_dark b ≡ false → a ≡ b → ⊥
+colours-differ a b e f same = cc (e, f, ap is_dark same)
 
 -- ---- a tile of two cells is in the tiling where their common step is crossed
 
@@ -56,13 +60,6 @@ module _ (R : Region) (A : List Tile) (tiling : TilingParts R A) where
       go true e = absurd (cell_lt-irreflexive a (cell_lt-transitive a b a e back))
       go false e = λ i. record { first = sym q i; second = sym p i }
 
-  pub tile_eq-same : (s t : Tile) → tile_eq s t ≡ true → s ≡ t
-  tile_eq-same s t e =
-      let p = and_parts _ _ e in
-      let f : s.first ≡ t.first = cell_eq-same _ _ p.0 in
-      let g : s.second ≡ t.second = cell_eq-same _ _ p.1 in
-      λ i. record { first = f i; second = g i }
-
   pub tile-crossed : (a b : Cell) (e : Step) → (a ≡ b → ⊥) → In e (steps_round R.kind a) → In e (steps_round R.kind b) → is_in A (tile_of a b) ≡ is_crossed R A e
   tile-crossed a b e differ i j = same_test (is_in A (tile_of a b)) (is_crossed R A e) to from
     where
@@ -71,7 +68,7 @@ module _ (R : Region) (A : List Tile) (tiling : TilingParts R A) where
       across false = (j, i)
 
       to : is_in A (tile_of a b) ≡ true → is_crossed R A e ≡ true
-      to h = go (In-any_parts (tile_eq (tile_of a b)) A h)
+      to h = go (any-In (tile_eq (tile_of a b)) A h)
         where
           go : (s : Tile) × In s A × (tile_eq (tile_of a b) s ≡ true) → is_crossed R A e ≡ true
           go (s, k, same) = crossed-from R A s e k (subst (λ (t : Tile). IsAcross R t e) (tile_eq-same _ _ same) (across (cell_lt a b)))
@@ -83,28 +80,25 @@ module _ (R : Region) (A : List Tile) (tiling : TilingParts R A) where
           go (s, k, (m, n)) =
               let d = (tiling.tiles s k).differ in
               let its : s ≡ tile_of a b = pair_is s a b (tiling.tiles s k).order (cell-two R.kind s.first s.second a e d m n i) (cell-two R.kind s.first s.second b e d m n j) differ in
-              In-any_from (tile_eq (tile_of a b)) (tile_of a b) A (subst (λ (t : Tile). In t A) its k)
+              In-any_of (tile_eq (tile_of a b)) (tile_of a b) A (subst (λ (t : Tile). In t A) its k)
               (and_from _ _ (cell_eq-refl (tile_of a b).first) (cell_eq-refl (tile_of a b).second))
-
-  apart : (a b : Cell) → is_dark a ≡ true → is_dark b ≡ false → a ≡ b → ⊥
-  apart a b e f same = cc (e, f, ap is_dark same)
 
   -- a dark cell and the next: the step goes out from the corner
   pub dart-out : (v w : Corner) (a b : Cell) → IsDart R.cells R.kind v w a b → is_dark a ≡ true → is_dark b ≡ false → is_in A (tile_of a b) ≡ is_crossed R A (v, w)
   dart-out v w a b g e f =
-      tile-crossed a b (v, w) (apart a b e f)
+      tile-crossed a b (v, w) (colours-differ a b e f)
       (subst (λ (t : Bool). In (directed t v w) (steps_round R.kind a)) e (In-map step_along (side a v w) (sides R.kind a) g.first))
       (subst (λ (t : Bool). In (directed t w v) (steps_round R.kind b)) f (In-map step_along (side b w v) (sides R.kind b) g.second))
 
   -- a light cell and the next: the step leads to it
   pub dart-in : (v w : Corner) (a b : Cell) → IsDart R.cells R.kind v w a b → is_dark a ≡ false → is_dark b ≡ true → is_in A (tile_of a b) ≡ is_crossed R A (w, v)
   dart-in v w a b g e f =
-      tile-crossed a b (w, v) (λ same. apart b a f e (sym same))
+      tile-crossed a b (w, v) (λ same. colours-differ b a f e (sym same))
       (subst (λ (t : Bool). In (directed t v w) (steps_round R.kind a)) e (In-map step_along (side a v w) (sides R.kind a) g.first))
       (subst (λ (t : Bool). In (directed t w v) (steps_round R.kind b)) f (In-map step_along (side b w v) (sides R.kind b) g.second))
 
 pub side_ends : (a : Cell) (u w u' w' : Corner) → u.r ≡ u'.r → u.x ≡ u'.x → w.r ≡ w'.r → w.x ≡ w'.x → side a u w ≡ side a u' w'
-side_ends a u w u' w' p q s t = λ i. side a (corner_same u u' p q i) (corner_same w w' s t i)
+side_ends a u w u' w' p q s t = λ i. side a (corner-same u u' p q i) (corner-same w w' s t i)
 
 pick-first : {X : Type 0} (p : X → Bool) (a b c d : X) → p a ≡ true → p b ≡ false → p c ≡ true → p d ≡ false → filter p (a ∷ b ∷ c ∷ d ∷ []) ≡ a ∷ c ∷ []
 pick-first p a b c d e f g h = rw (e, f, g, h) refl
@@ -215,21 +209,21 @@ module _ (cells : List Cell) (v : Corner) (g : SquareRing cells v) where
 
   outs-even : (v.r + v.x) % 2 ≡ 0 → present (steps_out Square v) ≡ up ∷ down ∷ []
   unfolding up down
-  outs-even even = rw (eq-eqb _ _ even, less-some v.r 1 g.nw.r (sym g.nw_r)) refl
+  outs-even even = rw (eq-eqb _ _ even, less-of v.r 1 g.nw.r (sym g.nw_r)) refl
 
   outs-odd : (v.r + v.x) % 2 ≡ 1 → present (steps_out Square v) ≡ back ∷ on ∷ []
   unfolding on back
-  outs-odd odd = rw (ne_eqb ((v.r + v.x) % 2) 0 (omega (arith, odd)), less-some v.x 1 g.nw.c (sym g.nw_c)) refl
+  outs-odd odd = rw (ne_eqb ((v.r + v.x) % 2) 0 (omega (arith, odd)), less-of v.x 1 g.nw.c (sym g.nw_c)) refl
 
   ins-even : (v.r + v.x) % 2 ≡ 0 → steps_in Square v ≡ on ∷ back ∷ []
   unfolding on back
-  ins-even even = rw (eq-eqb _ _ even) (ap (λ (w : Corner). corner v.r (v.x + 1) ∷ w ∷ []) (corner_same (corner v.r (v.x - 1)) (corner v.r g.nw.c) refl (omega (arith, g.nw_c))))
+  ins-even even = rw (eq-eqb _ _ even) (ap (λ (w : Corner). corner v.r (v.x + 1) ∷ w ∷ []) (corner-same (corner v.r (v.x - 1)) (corner v.r g.nw.c) refl (omega (arith, g.nw_c))))
 
   ins-odd : (v.r + v.x) % 2 ≡ 1 → steps_in Square v ≡ up ∷ down ∷ []
   unfolding up down
   ins-odd odd =
       rw (ne_eqb ((v.r + v.x) % 2) 0 (omega (arith, odd)))
-      (ap (λ (w : Corner). w ∷ corner (v.r + 1) v.x ∷ []) (corner_same (corner (v.r - 1) v.x) (corner g.nw.r v.x) (omega (arith, g.nw_r)) refl))
+      (ap (λ (w : Corner). w ∷ corner (v.r + 1) v.x ∷ []) (corner-same (corner (v.r - 1) v.x) (corner g.nw.r v.x) (omega (arith, g.nw_r)) refl))
 
 abbrev out_pairs : List Cell → List (Cell × Cell)
 out_pairs cells = filter (λ p. is_dark p.0) (zip cells (turned cells))
@@ -369,22 +363,6 @@ triangle-ring cells v ((a, a', p1, q1), (b, b', p2, q2), (c, c', p3, q3), (d, d'
   six_c = q6;
 }
 
-abbrev pub up_sides : Cell → List Side
-up_sides a =
-    side a (corner a.r (a.c + 1)) (corner (a.r + 1) a.c) ∷ side a (corner (a.r + 1) a.c) (corner (a.r + 1) (a.c + 2))
-    ∷ side a (corner (a.r + 1) (a.c + 2)) (corner a.r (a.c + 1)) ∷ []
-
-abbrev pub down_sides : Cell → List Side
-down_sides a =
-    side a (corner a.r a.c) (corner (a.r + 1) (a.c + 1)) ∷ side a (corner (a.r + 1) (a.c + 1)) (corner a.r (a.c + 2))
-    ∷ side a (corner a.r (a.c + 2)) (corner a.r a.c) ∷ []
-
-pub among-up : (a : Cell) (s : Side) → is_dark a ≡ true → In s (up_sides a) → In s (sides Triangle a)
-among-up a s dark i = subst (λ (t : Bool). In s (cond t (up_sides a) (down_sides a))) (sym dark) i
-
-pub among-down : (a : Cell) (s : Side) → is_dark a ≡ false → In s (down_sides a) → In s (sides Triangle a)
-among-down a s light i = subst (λ (t : Bool). In s (cond t (up_sides a) (down_sides a))) (sym light) i
-
 pick-odd : {X : Type 0} (p : X → Bool) (a b c d e f : X) → p a ≡ true → p b ≡ false → p c ≡ true → p d ≡ false → p e ≡ true → p f ≡ false
     → filter p (a ∷ b ∷ c ∷ d ∷ e ∷ f ∷ []) ≡ a ∷ c ∷ e ∷ []
 pick-odd p a b c d e f g h i j k l = rw (g, h, i, j, k, l) refl
@@ -494,13 +472,13 @@ module _ (cells : List Cell) (v : Corner) (odd : (v.r + v.x) % 2 ≡ 1) (g : Tri
 
   outs-triangle : present (steps_out Triangle v) ≡ w2 ∷ w0 ∷ w4 ∷ []
   unfolding w0 w2 w4
-  outs-triangle = rw (less-some v.r 1 g.one.r (sym g.one_r), less-some v.x 1 g.two.c (sym g.two_c)) refl
+  outs-triangle = rw (less-of v.r 1 g.one.r (sym g.one_r), less-of v.x 1 g.two.c (sym g.two_c)) refl
 
   ins-triangle : steps_in Triangle v ≡ w1 ∷ w3 ∷ w5 ∷ []
   unfolding w1 w3 w5
   ins-triangle =
-      let first : corner (v.r - 1) (v.x + 1) ≡ corner g.one.r (v.x + 1) = corner_same _ _ (omega (arith, g.one_r)) refl in
-      let last : corner v.r (v.x - 2) ≡ corner v.r g.one.c = corner_same _ _ refl (omega (arith, g.one_c)) in
+      let first : corner (v.r - 1) (v.x + 1) ≡ corner g.one.r (v.x + 1) = corner-same _ _ (omega (arith, g.one_r)) refl in
+      let last : corner v.r (v.x - 2) ≡ corner v.r g.one.c = corner-same _ _ refl (omega (arith, g.one_c)) in
       λ i. first i ∷ corner (v.r + 1) (v.x + 1) ∷ last i ∷ []
 
 module _ (cells : List Cell) (test : Tile → Bool) (crossed : Corner → Corner → Bool) (v : Corner) where

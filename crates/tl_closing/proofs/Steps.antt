@@ -1,37 +1,17 @@
 -- Directed steps by their coordinates, and the residue, which rises by 1 along each.
 use Rattle.std.proofs.Common.{◌≡◌, ℕ, ◌+◌, ◌-◌, ◌*◌, ◌%◌, ◌⊎◌, inl, inr, Bool, true, false, List, [], ◌∷◌, cond, Option, Some, None, refl, sym, ap, arith, eqb}
-use Rattle.std.specs.Prelude.{nat_lt, ◌==◌, if◌then◌else◌}
+use Rattle.std.specs.Prelude.{◌==◌, if◌then◌else◌}
 use Rattle.std.specs.List.{cons_option}
-use Rattle.std.proofs.lemmas.Bool.{le-ltb, ltb-false, eqb-true, eqb-false, eq-eqb, ne_eqb, cases_Bool}
+use Rattle.std.proofs.lemmas.Bool.{eqb-true, eqb-false, eq-eqb, ne_eqb, cases_Bool}
 use Rattle.tl_definitions.specs.declared.Kind.{Kind}
 use Rattle.tl_definitions.specs.declared.Kind.TheVariants.{Square, Triangle}
 use Rattle.tl_definitions.specs.declared.Corner.{Corner}
-use Rattle.tl_definitions.specs.Lattice.{corner, corner_at, corner_eq, less, steps_out}
+use Rattle.tl_definitions.specs.Lattice.{corner, corner_at, less, steps_out}
 use Rattle.tl_definitions.specs.Region.{present}
 use Rattle.tl_definitions.specs.Heights.{rise}
 use Rattle.tl_definitions.proofs.Sublists.{In}
-use Rattle.tl_definitions.proofs.Regions.{and-parts}
-
-pub corner_same : (u v : Corner) → u.r ≡ v.r → u.x ≡ v.x → u ≡ v
-corner_same u v p q = λ i. record { r = p i; x = q i }
-
-pub corner_eq-same : (u v : Corner) → corner_eq u v ≡ true → u ≡ v
-corner_eq-same u v e =
-    let p : (eqb u.r v.r ≡ true) × (eqb u.x v.x ≡ true) = and-parts (eqb u.r v.r) (eqb u.x v.x) e in
-    corner_same u v (eqb-true _ _ p.0) (eqb-true _ _ p.1)
-
-pub corner_eq-refl : (u : Corner) → corner_eq u u ≡ true
-corner_eq-refl u = rw (eq-eqb u.r u.r refl, eq-eqb u.x u.x refl) refl
-
-pub less-some : (n k m : ℕ) → n ≡ m + k → less n k ≡ Some m
-less-some n k m e = rw (le-ltb n k (omega (arith, e))) (ap (λ (j : ℕ). Some j) (omega (arith, e)))
-
-pub less-parts : (n k m : ℕ) → less n k ≡ Some m → n ≡ m + k
-less-parts n k m e = go (nat_lt n k) refl e
-  where
-    go : (t : Bool) → nat_lt n k ≡ t → cond t None (Some (n - k)) ≡ Some m → n ≡ m + k
-    go true h e = cc e
-    go false h e = let same : n - k ≡ m = cc e in omega (arith, same, ltb-false n k h)
+use Rattle.tl_definitions.proofs.Corners.{corner-same}
+use Rattle.tl_definitions.proofs.Darts.{less-of, less-some}
 
 corner_at-parts : (o p : Option ℕ) (v : Corner) (vs : List Corner) → In v (cons_option (corner_at o p) vs)
     → ((o ≡ Some v.r) × (p ≡ Some v.x)) ⊎ In v vs
@@ -54,36 +34,36 @@ IsMove Triangle u v =
     ⊎ (((u.r ≡ v.r + 1) × (u.x ≡ v.x + 1)) ⊎ ((u.r + 1 ≡ v.r) × (u.x ≡ v.x + 1)))
 
 pub move-step : (k : Kind) (u v : Corner) → IsMove k u v → IsStepOut k u v
-move-step Square u v (inl (even, column, inl up)) = rw (eq-eqb _ _ even, less-some u.r 1 v.r up) (inl (corner_same v (corner v.r u.x) refl (sym column)))
+move-step Square u v (inl (even, column, inl up)) = rw (eq-eqb _ _ even, less-of u.r 1 v.r up) (inl (corner-same v (corner v.r u.x) refl (sym column)))
 move-step Square u v (inl (even, column, inr down)) = rw (eq-eqb _ _ even) (last (corner_at (less u.r 1) (Some u.x)))
   where
     last : (o : Option Corner) → In v (cons_option o (corner (u.r + 1) u.x ∷ []))
-    last None = inl (corner_same v (corner (u.r + 1) u.x) (sym down) (sym column))
-    last (Some w) = inr (inl (corner_same v (corner (u.r + 1) u.x) (sym down) (sym column)))
-move-step Square u v (inr (odd, row, inl back)) = rw (ne_eqb ((u.r + u.x) % 2) 0 (omega (arith, odd)), less-some u.x 1 v.x back) (inl (corner_same v (corner u.r v.x) (sym row) refl))
+    last None = inl (corner-same v (corner (u.r + 1) u.x) (sym down) (sym column))
+    last (Some w) = inr (inl (corner-same v (corner (u.r + 1) u.x) (sym down) (sym column)))
+move-step Square u v (inr (odd, row, inl back)) = rw (ne_eqb ((u.r + u.x) % 2) 0 (omega (arith, odd)), less-of u.x 1 v.x back) (inl (corner-same v (corner u.r v.x) (sym row) refl))
 move-step Square u v (inr (odd, row, inr on)) = rw (ne_eqb ((u.r + u.x) % 2) 0 (omega (arith, odd))) (last (corner_at (Some u.r) (less u.x 1)))
   where
     last : (o : Option Corner) → In v (cons_option o (corner u.r (u.x + 1) ∷ []))
-    last None = inl (corner_same v (corner u.r (u.x + 1)) (sym row) (sym on))
-    last (Some w) = inr (inl (corner_same v (corner u.r (u.x + 1)) (sym row) (sym on)))
-move-step Triangle u v (inl (row, on)) = inl (corner_same v (corner u.r (u.x + 2)) (sym row) (sym on))
-move-step Triangle u v (inr (inl (up, back))) = rw (less-some u.r 1 v.r up, less-some u.x 1 v.x back) (inr (inl refl))
-move-step Triangle u v (inr (inr (down, back))) = rw (less-some u.x 1 v.x back) (inr (last (corner_at (less u.r 1) (Some v.x))))
+    last None = inl (corner-same v (corner u.r (u.x + 1)) (sym row) (sym on))
+    last (Some w) = inr (inl (corner-same v (corner u.r (u.x + 1)) (sym row) (sym on)))
+move-step Triangle u v (inl (row, on)) = inl (corner-same v (corner u.r (u.x + 2)) (sym row) (sym on))
+move-step Triangle u v (inr (inl (up, back))) = rw (less-of u.r 1 v.r up, less-of u.x 1 v.x back) (inr (inl refl))
+move-step Triangle u v (inr (inr (down, back))) = rw (less-of u.x 1 v.x back) (inr (last (corner_at (less u.r 1) (Some v.x))))
   where
     last : (o : Option Corner) → In v (cons_option o (corner (u.r + 1) v.x ∷ []))
-    last None = inl (corner_same v (corner (u.r + 1) v.x) (sym down) refl)
-    last (Some w) = inr (inl (corner_same v (corner (u.r + 1) v.x) (sym down) refl))
+    last None = inl (corner-same v (corner (u.r + 1) v.x) (sym down) refl)
+    last (Some w) = inr (inl (corner-same v (corner (u.r + 1) v.x) (sym down) refl))
 
 pub step-move : (k : Kind) (u v : Corner) → IsStepOut k u v → IsMove k u v
 step-move Square u v i = go (eqb ((u.r + u.x) % 2) 0) refl i
   where
     even_cases : (u.r + u.x) % 2 ≡ 0 → ((less u.r 1 ≡ Some v.r) × (Some u.x ≡ Some v.x)) ⊎ ((v ≡ corner (u.r + 1) u.x) ⊎ ⊥) → IsMove Square u v
-    even_cases e (inl (up, column)) = inl (e, cc column, inl (less-parts u.r 1 v.r up))
+    even_cases e (inl (up, column)) = inl (e, cc column, inl (less-some u.r 1 v.r up))
     even_cases e (inr (inl same)) = inl (e, ap (λ (w : Corner). w.x) (sym same), inr (ap (λ (w : Corner). w.r) (sym same)))
     even_cases e (inr (inr none)) = absurd none
 
     odd_cases : (u.r + u.x) % 2 ≡ 1 → ((Some u.r ≡ Some v.r) × (less u.x 1 ≡ Some v.x)) ⊎ ((v ≡ corner u.r (u.x + 1)) ⊎ ⊥) → IsMove Square u v
-    odd_cases e (inl (row, back)) = inr (e, cc row, inl (less-parts u.x 1 v.x back))
+    odd_cases e (inl (row, back)) = inr (e, cc row, inl (less-some u.x 1 v.x back))
     odd_cases e (inr (inl same)) = inr (e, ap (λ (w : Corner). w.r) (sym same), inr (ap (λ (w : Corner). w.x) (sym same)))
     odd_cases e (inr (inr none)) = absurd none
 
@@ -99,11 +79,11 @@ step-move Triangle u v (inl same) = inl (ap (λ (w : Corner). w.r) (sym same), a
 step-move Triangle u v (inr i) = go (corner_at-parts (less u.r 1) (less u.x 1) v (present (corner_at (Some (u.r + 1)) (less u.x 1) ∷ [])) i)
   where
     last : ((Some (u.r + 1) ≡ Some v.r) × (less u.x 1 ≡ Some v.x)) ⊎ ⊥ → IsMove Triangle u v
-    last (inl (down, back)) = inr (inr (cc down, less-parts u.x 1 v.x back))
+    last (inl (down, back)) = inr (inr (cc down, less-some u.x 1 v.x back))
     last (inr none) = absurd none
 
     go : ((less u.r 1 ≡ Some v.r) × (less u.x 1 ≡ Some v.x)) ⊎ In v (present (corner_at (Some (u.r + 1)) (less u.x 1) ∷ [])) → IsMove Triangle u v
-    go (inl (up, back)) = inr (inl (less-parts u.r 1 v.r up, less-parts u.x 1 v.x back))
+    go (inl (up, back)) = inr (inl (less-some u.r 1 v.r up, less-some u.x 1 v.x back))
     go (inr j) = last (corner_at-parts (Some (u.r + 1)) (less u.x 1) v [] j)
 
 -- ---- the residue

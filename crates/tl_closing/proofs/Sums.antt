@@ -5,9 +5,9 @@ use Rattle.std.proofs.lemmas.Int.{ints}
 use Rattle.std.proofs.lemmas.Bool.{and_parts, not-true, false_from_ne_true}
 use Rattle.tl_definitions.specs.Accepted.{turned, distinct}
 use Rattle.tl_definitions.specs.Obstruction.{int_sum}
-use Rattle.tl_definitions.proofs.Sublists.{In, In-map, In-filter}
+use Rattle.tl_definitions.proofs.Sublists.{In, In-map, In-filter, In-any_of}
 use Rattle.tl_definitions.proofs.Ordered.{In-filter_parts}
-use Rattle.tl_closing.proofs.Members.{Distinct, Distinct-filter, In-any_from}
+use Rattle.tl_closing.proofs.Members.{Distinct, Distinct-filter}
 
 pub int_sum-append : (xs ys : List ℤ) → int_sum (xs ++ ys) ≡ int_sum xs +ℤ int_sum ys
 int_sum-append [] ys = omega (arith, ints)
@@ -30,7 +30,7 @@ pub Distinct-from : {A : Type 0} (eq : A → A → Bool) → ((x : A) → eq x x
 Distinct-from eq eq-refl [] e = tt
 Distinct-from eq eq-refl (x ∷ xs) e =
     let p : (not (list_any (eq x) xs) ≡ true) × (distinct eq xs ≡ true) = and_parts _ _ e in
-    (λ i. cc (not-true _ p.0, In-any_from (eq x) x xs i (eq-refl x)), Distinct-from eq eq-refl xs p.1)
+    (λ i. cc (not-true _ p.0, In-any_of (eq x) x xs i (eq-refl x)), Distinct-from eq eq-refl xs p.1)
 
 module _ {A : Type 0} (eq : A → A → Bool) (eq-same : (x y : A) → eq x y ≡ true → x ≡ y) (eq-refl : (x : A) → eq x x ≡ true) (f : A → ℤ) where
   abbrev others : A → List A → List A

@@ -10,14 +10,10 @@ use Rattle.tl_definitions.specs.Lattice.{cell, cell_lt, left, above, below, neig
 use Rattle.tl_definitions.specs.Region.{Region, present}
 use Rattle.tl_definitions.specs.Accepted.{linked, IsPlaced}
 use Rattle.tl_definitions.specs.Tiling.{tile_lt, is_tile, tiles}
-use Rattle.tl_definitions.proofs.Sublists.{In, later, linked-tail, cell_lt-cases, cell_lt-from, cell_lt-irreflexive, cell_lt-transitive, tile_lt-from, tile_lt-irreflexive, tile_lt-transitive}
+use Rattle.tl_definitions.proofs.Sublists.{pair, In, later, linked-tail, cell_lt-cases, cell_lt-from, cell_lt-irreflexive, cell_lt-transitive, tile_lt-from, tile_lt-irreflexive, tile_lt-transitive, In-map_parts, In-flat_map_parts}
 use Rattle.tl_definitions.proofs.Ordered.{In-filter_parts, linked-append, linked-filter}
 use Rattle.tl_definitions.proofs.Partners.{cells-linked}
-use Rattle.tl_closing.proofs.Members.{In-map_parts, In-flat_map_parts}
 use Rattle.tl_closing.proofs.Shared.{left-coordinates, above-coordinates}
-
-abbrev pair : Cell → Cell → Tile
-pair a b = record { first = a; second = b }
 
 -- the tiles of a cell and its neighbours
 abbrev piece : (Tile → Bool) → Kind → Cell → List Tile

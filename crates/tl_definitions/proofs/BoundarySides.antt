@@ -1,29 +1,19 @@
 -- The boundary sides that leave a corner and those that come to it.
-use Rattle.std.proofs.Common.{◌≡◌, ◌⊎◌, inl, inr, Bool, true, false, not, Some, refl, sym, ◌∙◌, ap, subst}
-use Rattle.std.proofs.lemmas.Bool.{and_parts, and_from}
+use Rattle.std.proofs.Common.{◌≡◌, true, false, not, Some, sym, ◌∙◌, ap, subst}
+use Rattle.std.proofs.lemmas.Bool.{and_parts, and_from, false_from_ne_true, not_from_false}
 use Rattle.tl_definitions.specs.declared.Cell.{Cell}
 use Rattle.tl_definitions.specs.declared.Corner.{Corner}
 use Rattle.tl_definitions.specs.declared.rings.Dart.{Dart}
 use Rattle.tl_definitions.specs.Lattice.{corner_eq, is_corner, sides, Side, side}
 use Rattle.tl_definitions.specs.Region.{Region, has, has_at, all_sides, is_other_side, is_boundary, boundary}
 use Rattle.tl_definitions.specs.Darts.{darts, left_cell, right_cell, other_end}
-use Rattle.tl_definitions.proofs.Sublists.{In, In-any, In-filter, In-flat_map}
+use Rattle.tl_definitions.proofs.Sublists.{In, In-any, In-filter, In-flat_map, In-flat_map_parts}
 use Rattle.tl_definitions.proofs.Ordered.{list_all-In, In-list_all, In-filter_parts}
 use Rattle.tl_definitions.proofs.Partners.{In-has}
 use Rattle.tl_definitions.proofs.Darts.{Lies, IsEnd, LeavesBy, EntersBy, cell_back-lies, lies-cell_back, end-is, same_dart, side_darts}
 use Rattle.tl_definitions.proofs.DartSides.{IsSideOf, left_side, right_side}
-use Rattle.tl_definitions.proofs.CornerRings.{In-flat_map_parts, corner_eq-same, corner_eq-refl, has_at-some, has-has_at}
-
-true_or_false : (b : Bool) → (b ≡ true) ⊎ (b ≡ false)
-true_or_false true = inl refl
-true_or_false false = inr refl
-
-not_true : (b : Bool) → (b ≡ true → ⊥) → b ≡ false
-not_true true h = absurd (h refl)
-not_true false h = refl
-
-not_false : (b : Bool) → b ≡ false → not b ≡ true
-not_false b e = ap not e
+use Rattle.tl_definitions.proofs.CornerRings.{has_at-some, has-has_at}
+use Rattle.tl_definitions.proofs.Corners.{corner_eq-same, corner_eq-refl}
 
 -- A boundary side, by the dart at its first end.
 pub record LeavesThrough (R : Region) (s : Side) (g : Dart) : Type 0 where
@@ -70,7 +60,7 @@ boundary-leaves R s i =
         dart = by.dart;
         cell = lies-cell_back s.from g.left a by.lies ∙ ap (λ (c : Cell). Some c) (sym p.2);
         inside = subst (λ c. has R c ≡ true) (sym p.2) in_R;
-        outside = not_true (has_at R (right_cell s.from g)) (λ e. across g by.dart p.3 ends (has_at-some R (right_cell s.from g) e));
+        outside = false_from_ne_true (has_at R (right_cell s.from g)) (λ e. across g by.dart p.3 ends (has_at-some R (right_cell s.from g) e));
         ends = ends;
       },
     )
@@ -93,7 +83,7 @@ boundary-comes R s i =
         dart = by.dart;
         cell = lies-cell_back s.to g.right a by.lies ∙ ap (λ (c : Cell). Some c) (sym p.2);
         inside = subst (λ c. has R c ≡ true) (sym p.2) in_R;
-        outside = not_true (has_at R (left_cell s.to g)) (λ e. across g by.dart p.4 begins (has_at-some R (left_cell s.to g) e));
+        outside = false_from_ne_true (has_at R (left_cell s.to g)) (λ e. across g by.dart p.4 begins (has_at-some R (left_cell s.to g) e));
         begins = begins;
       },
     )
@@ -123,7 +113,7 @@ leaving_side R v g c h i is in_R out =
         cc (sym out, has-has_at R (right_cell v g) b (lies-cell_back v g.right b lies) (In-has b R.cells j))
 
     alone : (t : Side) → In t (all_sides R) → not (is_other_side (side c v w) t) ≡ true
-    alone t j = not_false (is_other_side (side c v w) t) (not_true (is_other_side (side c v w) t) none)
+    alone t j = not_from_false (is_other_side (side c v w) t) (false_from_ne_true (is_other_side (side c v w) t) none)
       where
         none : is_other_side (side c v w) t ≡ true → ⊥
         none e =
@@ -150,7 +140,7 @@ coming_side R v g c h i is in_R out =
         cc (sym out, has-has_at R (left_cell v g) b (lies-cell_back v g.left b lies) (In-has b R.cells j))
 
     alone : (t : Side) → In t (all_sides R) → not (is_other_side (side c w v) t) ≡ true
-    alone t j = not_false (is_other_side (side c w v) t) (not_true (is_other_side (side c w v) t) none)
+    alone t j = not_from_false (is_other_side (side c w v) t) (false_from_ne_true (is_other_side (side c w v) t) none)
       where
         none : is_other_side (side c w v) t ≡ true → ⊥
         none e =

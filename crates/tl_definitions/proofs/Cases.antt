@@ -1,6 +1,6 @@
 -- What the cases of the other files are written with.
-use Rattle.std.proofs.Common.{ℕ, zero, suc, ◌-◌, ◌/◌, ◌%◌, ◌^◌, Bool, not, ◌&&◌, List, [], ◌∷◌, ◌++◌, map, length, Option, Some, None, cond}
-use Rattle.std.specs.Prelude.{filter, flat_map, find, option_and_then, slice_index, ◌==◌}
+use Rattle.std.proofs.Common.{◌≡◌, ℕ, zero, suc, ◌-◌, ◌/◌, ◌%◌, ◌^◌, Bool, true, not, ◌&&◌, List, [], ◌∷◌, ◌++◌, map, length, Option, Some, None, cond}
+use Rattle.std.specs.Prelude.{filter, flat_map, find, option_and_then, slice_index, IsTrue, ◌==◌}
 use Rattle.std.specs.List.{list_any}
 use Rattle.std.specs.Str.{bytes_eq}
 use Rattle.std.specs.Cmp.Lexicographic.{pointwise}
@@ -8,10 +8,12 @@ use Rattle.tl_definitions.specs.declared.Cell.{Cell}
 use Rattle.tl_definitions.specs.declared.Tile.{Tile}
 use Rattle.tl_definitions.specs.Lattice.{cell_eq, cell_lt, corner_eq, Side}
 use Rattle.tl_definitions.specs.Region.{Region, inner_corners, boundary, corner_places}
-use Rattle.tl_definitions.specs.Tiling.{tiles, is_tiling, tile_of, tile_eq, covers}
+use Rattle.tl_definitions.specs.Accepted.{linked}
+use Rattle.tl_definitions.specs.Tiling.{tiles, is_tiling, tile_lt, tile_of, tile_eq, covers}
 use Rattle.tl_definitions.specs.Drawing.{drawing, named_at}
 use Rattle.tl_definitions.specs.Flip.{flip, can_flip}
 use Rattle.tl_definitions.specs.Sweep.{carried}
+use Rattle.tl_definitions.proofs.Sublists.{sublists, In-tilings, Each, Each-at}
 
 -- The first random words of seed 0 and sample 0. The bit of inner corner i at time -t is bit i of word t, where
 -- one word serves all corners.
@@ -84,3 +86,12 @@ reach R (suc n) As = let near = reach R n As in each_tiling_once (near ++ flat_m
 
 abbrev pub reaches : Region → ℕ → List Tile → List Tile → Bool
 reaches R n A B = list_any (tiling_eq B) (reach R n (A ∷ []))
+
+-- every tiling of a small region
+abbrev pub found : Region → List (List Tile)
+found R = filter (is_tiling R) (sublists (tiles R))
+
+-- a start from which each tiling that was found is carried to one gathers
+pub gathers_from : (R : Region) (bits : ℕ → ℕ → Bool) (T : ℕ) (S : List Tile) → linked tile_lt (tiles R) ≡ true
+    → Each (λ A. carried R bits T A ≡ S) (found R) → (A : List Tile) → IsTrue (is_tiling R A) → carried R bits T A ≡ S
+gathers_from R bits T S l each A t = Each-at (λ B. carried R bits T B ≡ S) A (found R) each (In-tilings R A l t)

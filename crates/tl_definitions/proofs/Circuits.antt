@@ -1,27 +1,25 @@
 -- The walk from the first boundary corner is the circuit exactly where it passes every boundary corner.
-use Rattle.std.proofs.Common.{◌≡◌, ◌+◌, ◌<◌, ◌≤◌, ◌⊎◌, inl, inr, Bool, true, false, ◌&&◌, List, [], ◌∷◌, ◌++◌, map, cond, Some, None, refl, sym, ◌∙◌, ap, subst, arith}
-use Rattle.std.specs.Prelude.{find, nat_lt}
+use Rattle.std.proofs.Common.{◌≡◌, ◌+◌, ◌<◌, ◌≤◌, ◌⊎◌, inl, inr, Bool, true, false, List, [], ◌∷◌, ◌++◌, map, cond, Some, None, refl, sym, ◌∙◌, ap, subst, arith}
+use Rattle.std.specs.Prelude.{find}
 use Rattle.std.specs.List.{list_any}
-use Rattle.std.proofs.lemmas.Bool.{and_parts, ltb-true}
 use Rattle.tl_definitions.specs.declared.Kind.{Kind}
 use Rattle.tl_definitions.specs.declared.Kind.TheVariants.{Square, Triangle}
-use Rattle.tl_definitions.specs.declared.Cell.{Cell}
 use Rattle.tl_definitions.specs.declared.Corner.{Corner}
 use Rattle.tl_definitions.specs.declared.rings.Dart.{Dart}
-use Rattle.tl_definitions.specs.Lattice.{cell_eq, corner_eq, corner_lt, Side}
-use Rattle.tl_definitions.specs.Region.{Region, has, corner_places, boundary, side_eq}
+use Rattle.tl_definitions.specs.Lattice.{corner_eq, corner_lt, Side}
+use Rattle.tl_definitions.specs.Region.{Region, corner_places, boundary, side_eq}
 use Rattle.tl_definitions.specs.Accepted.{IsPlaced, turned, is_pinch, distinct, is_first_of, circuit_corners, IsCircuit}
 use Rattle.tl_definitions.specs.Darts.{darts}
 use Rattle.tl_definitions.specs.Boundary.{is_boundary_corner, IsClosedWalk}
-use Rattle.tl_definitions.proofs.Regions.{any-filter-places}
-use Rattle.tl_definitions.proofs.Sublists.{In, In-map, Each, Each-at}
+use Rattle.tl_definitions.proofs.Regions.{has-within}
+use Rattle.tl_definitions.proofs.Sublists.{In, In-map, Each, Each-at, any-In, In-any_of, In-map_parts}
 use Rattle.tl_definitions.proofs.Ordered.{list_all-In, In-list_all}
 use Rattle.tl_definitions.proofs.Darts.{cell_back-lies}
-use Rattle.tl_definitions.proofs.CornerRings.{any-In, In-any_of, corner_eq-same, corner_eq-refl}
 use Rattle.tl_definitions.proofs.BoundarySides.{boundary-corners, boundary-leaves, boundary-comes}
-use Rattle.tl_definitions.proofs.NextCorner.{one_side_from}
-use Rattle.tl_definitions.proofs.CornerPlaces.{corner_lt-irreflexive, corner_lt-transitive, corner_places-linked, In-corner_places, find-first}
-use Rattle.tl_definitions.proofs.Walks.{side-In, In-side, In-map_parts, In-last_cases, distinct-tail, IsFreeOfPinches, closed-sides, closed-begins}
+use Rattle.tl_definitions.proofs.NextCorner.{one_side_from, find-In}
+use Rattle.tl_definitions.proofs.CornerPlaces.{corner_places-linked, In-corner_places, find-first}
+use Rattle.tl_definitions.proofs.Walks.{side-In, In-side, In-last_cases, distinct-tail, IsFreeOfPinches, closed-sides, closed-begins}
+use Rattle.tl_definitions.proofs.Corners.{corner_eq-same, corner_eq-refl, corner_lt-irreflexive, corner_lt-transitive}
 
 -- ---- boundary corners are corner places
 
@@ -55,13 +53,6 @@ darts_near Triangle = (
     ),
   ),
 )
-
-has-within : (R : Region) (a : Cell) → IsPlaced R → has R a ≡ true → (a.r < R.rows) × (a.c < R.columns)
-has-within R a placed h =
-    let p : (has R a ≡ true) × ((nat_lt a.r R.rows && nat_lt a.c R.columns) ≡ true) =
-    and_parts _ _ (sym (any-filter-places (has R) a R.rows R.columns) ∙ (ap (list_any (cell_eq a)) (sym placed) ∙ h)) in
-    let q : (nat_lt a.r R.rows ≡ true) × (nat_lt a.c R.columns ≡ true) = and_parts _ _ p.1 in
-    (ltb-true _ _ q.0, ltb-true _ _ q.1)
 
 pub boundary-within : (R : Region) (s : Side) → IsPlaced R → In s (boundary R)
     → (s.from.r < R.rows + 1) × (s.from.x < R.columns + 2) × (s.to.r < R.rows + 1) × (s.to.x < R.columns + 2)
@@ -114,19 +105,8 @@ first-before R start s placed first i =
     find-first corner_lt corner_lt-irreflexive corner_lt-transitive (is_boundary_corner R) (corner_places R) start s.from (corner_places-linked R) first
     (boundary-places R s placed i).0 (from-boundary R s i)
 
-find-passes : {A : Type 0} (p : A → Bool) (xs : List A) (x : A) → find p xs ≡ Some x → p x ≡ true
-find-passes p [] x e = cc e
-find-passes {A} p (y ∷ xs) x e = go (p y) refl e (λ f. find-passes p xs x f)
-  where
-    some_same : (a b : A) → Some a ≡ Some b → a ≡ b
-    some_same a b h = cc h
-
-    go : (t : Bool) → p y ≡ t → cond t (Some y) (find p xs) ≡ Some x → (find p xs ≡ Some x → p x ≡ true) → p x ≡ true
-    go true h f ih = subst (λ z. p z ≡ true) (some_same y x f) h
-    go false h f ih = ih f
-
 pub first-boundary : (R : Region) (start : Corner) → IsFirstBoundaryCorner R start → (s : Side) × In s (boundary R) × (s.from ≡ start)
-first-boundary R start first = boundary-from R start (find-passes (is_boundary_corner R) (corner_places R) start first)
+first-boundary R start first = boundary-from R start (find-In (is_boundary_corner R) (corner_places R) start first).1
 
 -- ---- the circuit
 

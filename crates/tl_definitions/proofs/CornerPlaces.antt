@@ -1,44 +1,17 @@
 -- The corner places of a region: their order, and that the ends of its sides are among them.
-use Rattle.std.proofs.Common.{◌≡◌, ℕ, zero, suc, ◌+◌, ◌<◌, ◌≤◌, ◌⊎◌, inl, inr, Bool, true, false, ◌&&◌, List, [], ◌∷◌, map, cond, Some, refl, sym, ◌∙◌, ap, subst, arith}
-use Rattle.std.specs.Prelude.{flat_map, find, nat_lt, ◌==◌}
+use Rattle.std.proofs.Common.{◌≡◌, ℕ, zero, suc, ◌+◌, ◌<◌, ◌≤◌, ◌⊎◌, inl, inr, Bool, true, false, List, [], ◌∷◌, map, cond, Some, refl, sym, ◌∙◌, ap, subst, arith}
+use Rattle.std.specs.Prelude.{flat_map, find}
 use Rattle.std.specs.List.{range_with_len}
-use Rattle.std.proofs.lemmas.Bool.{and_parts, and_from, or_cases, or_left, or_right, eqb-true, eqb-false, eq-eqb, ltb-true, lt-ltb}
 use Rattle.tl_definitions.specs.declared.Corner.{Corner}
 use Rattle.tl_definitions.specs.Lattice.{corner, corner_lt, is_corner}
 use Rattle.tl_definitions.specs.Region.{Region, corner_places, upto}
 use Rattle.tl_definitions.specs.Accepted.{linked}
-use Rattle.tl_definitions.proofs.Sublists.{In, In-map, In-filter, In-flat_map, later, linked-tail}
+use Rattle.tl_definitions.proofs.Regions.{some_same}
+use Rattle.tl_definitions.proofs.Sublists.{In, In-map, In-filter, In-flat_map, later, linked-tail, In-append_cases, In-range}
 use Rattle.tl_definitions.proofs.Ordered.{linked-cons, linked-append, linked-filter}
-use Rattle.tl_definitions.proofs.Partners.{In-append_cases}
+use Rattle.tl_definitions.proofs.Corners.{corner_lt-from, corner_lt-irreflexive, corner_lt-transitive}
 
 -- ---- raster order
-
-pub corner_lt-cases : (u v : Corner) → corner_lt u v ≡ true → (u.r < v.r) ⊎ ((u.r ≡ v.r) × (u.x < v.x))
-corner_lt-cases u v e = go (or_cases (nat_lt u.r v.r) (u.r == v.r && nat_lt u.x v.x) e)
-  where
-    go : (nat_lt u.r v.r ≡ true) ⊎ ((u.r == v.r && nat_lt u.x v.x) ≡ true) → (u.r < v.r) ⊎ ((u.r ≡ v.r) × (u.x < v.x))
-    go (inl h) = inl (ltb-true _ _ h)
-    go (inr h) = let p = and_parts (u.r == v.r) (nat_lt u.x v.x) h in inr (eqb-true _ _ p.0, ltb-true _ _ p.1)
-
-pub corner_lt-from : (u v : Corner) → (u.r < v.r) ⊎ ((u.r ≡ v.r) × (u.x < v.x)) → corner_lt u v ≡ true
-corner_lt-from u v (inl h) = or_left (nat_lt u.r v.r) _ (lt-ltb _ _ h)
-corner_lt-from u v (inr h) = or_right (nat_lt u.r v.r) _ (and_from _ _ (eq-eqb u.r v.r h.0) (lt-ltb u.x v.x h.1))
-
-pub corner_lt-irreflexive : (v : Corner) → corner_lt v v ≡ true → ⊥
-corner_lt-irreflexive v e = go (corner_lt-cases v v e)
-  where
-    go : (v.r < v.r) ⊎ ((v.r ≡ v.r) × (v.x < v.x)) → ⊥
-    go (inl h) = omega (arith, h)
-    go (inr h) = omega (arith, h.1)
-
-pub corner_lt-transitive : (u v w : Corner) → corner_lt u v ≡ true → corner_lt v w ≡ true → corner_lt u w ≡ true
-corner_lt-transitive u v w e f = corner_lt-from u w (go (corner_lt-cases u v e) (corner_lt-cases v w f))
-  where
-    go : (u.r < v.r) ⊎ ((u.r ≡ v.r) × (u.x < v.x)) → (v.r < w.r) ⊎ ((v.r ≡ w.r) × (v.x < w.x)) → (u.r < w.r) ⊎ ((u.r ≡ w.r) × (u.x < w.x))
-    go (inl h) (inl k) = inl (omega (arith, h, k))
-    go (inl h) (inr k) = inl (omega (arith, h, k.0))
-    go (inr h) (inl k) = inl (omega (arith, h.0, k))
-    go (inr h) (inr k) = inr (omega (arith, h.0, k.0), omega (arith, h.1, k.1))
 
 abbrev row : ℕ → ℕ → ℕ → List Corner
 row r s n = map (λ x. corner r x) (range_with_len s n)
@@ -80,14 +53,6 @@ corner_places-linked R =
 
 -- ---- which they are
 
-In-range : (m s n : ℕ) → s ≤ m → m < s + n → In m (range_with_len s n)
-In-range m s zero h k = absurd (omega (arith, h, k))
-In-range m s (suc n) h k = go (s == m) refl (λ l. In-range m (s + 1) n l (omega (arith, k)))
-  where
-    go : (t : Bool) → (s == m) ≡ t → (s + 1 ≤ m → In m (range_with_len (s + 1) n)) → In m (range_with_len s (suc n))
-    go true e ih = inl (sym (eqb-true s m e))
-    go false e ih = inr (ih (omega (arith, h, eqb-false s m e)))
-
 pub In-corner_places : (R : Region) (v : Corner) → is_corner R.kind v ≡ true → v.r < R.rows + 1 → v.x < R.columns + 2 → In v (corner_places R)
 In-corner_places R v c h k =
     In-filter (is_corner R.kind) v (rows (R.columns + 2) 0 (R.rows + 1)) c
@@ -100,9 +65,6 @@ pub find-first : {A : Type 0} (lt : A → A → Bool) → ((x : A) → lt x x �
 find-first lt irreflexive transitive p [] x y l f i e = absurd i
 find-first {A} lt irreflexive transitive p (z ∷ xs) x y l f i e = go (p z) refl f i (λ k j. find-first lt irreflexive transitive p xs x y (linked-tail lt irreflexive transitive z xs l) k j e)
   where
-    some_same : (a b : A) → Some a ≡ Some b → a ≡ b
-    some_same a b h = cc h
-
     go : (t : Bool) → p z ≡ t → cond t (Some z) (find p xs) ≡ Some x → (y ≡ z) ⊎ In y xs → (find p xs ≡ Some x → In y xs → (y ≡ x) ⊎ (lt x y ≡ true)) → (y ≡ x) ⊎ (lt x y ≡ true)
     go true h k (inl same) ih = inl (same ∙ some_same z x k)
     go true h k (inr j) ih = inr (subst (λ w. lt w y ≡ true) (some_same z x k) (later lt irreflexive transitive z xs y l j))

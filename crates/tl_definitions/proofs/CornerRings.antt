@@ -1,8 +1,7 @@
 -- The corners and the edges of a region, by the rings of corners.
-use Rattle.std.proofs.Common.{◌≡◌, ◌+◌, ◌⊎◌, inl, inr, Bool, true, false, ◌&&◌, List, [], ◌∷◌, cond, Option, Some, None, refl, sym, ◌∙◌, ap, subst, arith}
-use Rattle.std.specs.Prelude.{◌==◌, flat_map}
+use Rattle.std.proofs.Common.{◌≡◌, ◌+◌, inl, inr, Bool, true, false, ◌&&◌, [], ◌∷◌, cond, Option, Some, None, refl, sym, ◌∙◌, ap, subst, arith}
 use Rattle.std.specs.List.{list_any}
-use Rattle.std.proofs.lemmas.Bool.{and_parts, and_from, or_cases, or_left, or_right, eqb-true, eq-eqb}
+use Rattle.std.proofs.lemmas.Bool.{and_parts, and_from, or_cases, or_left, or_right}
 use Rattle.tl_definitions.specs.declared.Kind.{Kind}
 use Rattle.tl_definitions.specs.declared.Kind.TheVariants.{Square, Triangle}
 use Rattle.tl_definitions.specs.declared.Cell.{Cell}
@@ -12,41 +11,11 @@ use Rattle.tl_definitions.specs.Lattice.{corner, corner_eq, is_corner, is_dark, 
 use Rattle.tl_definitions.specs.Region.{Region, has, has_at, all_sides, joins_corners, is_edge, is_corner_of}
 use Rattle.tl_definitions.specs.Darts.{darts, left_cell, right_cell, other_end, is_edge_of}
 use Rattle.tl_definitions.proofs.Regions.{same_test}
-use Rattle.tl_definitions.proofs.Sublists.{In, In-any, In-flat_map, Each, Each-at}
-use Rattle.tl_definitions.proofs.Partners.{In-has, In-append_cases}
-use Rattle.tl_definitions.proofs.Darts.{Lies, IsEnd, cell_back-lies, lies-cell_back, corner-same, end-is, same_dart, side_darts, dart}
+use Rattle.tl_definitions.proofs.Sublists.{In, In-any, In-flat_map, Each, Each-at, any-In, In-any_of, In-flat_map_parts}
+use Rattle.tl_definitions.proofs.Partners.{In-has}
+use Rattle.tl_definitions.proofs.Darts.{Lies, IsEnd, cell_back-lies, lies-cell_back, end-is, same_dart, side_darts, dart}
 use Rattle.tl_definitions.proofs.DartSides.{left_side, right_side}
-
--- ---- members
-
-pub any-In : {A : Type 0} (p : A → Bool) (xs : List A) → list_any p xs ≡ true → (x : A) × In x xs × (p x ≡ true)
-any-In p [] e = cc e
-any-In {A} p (x ∷ xs) e = go (or_cases (p x) (list_any p xs) e) (λ h. any-In p xs h)
-  where
-    go : (p x ≡ true) ⊎ (list_any p xs ≡ true) → (list_any p xs ≡ true → (y : A) × In y xs × (p y ≡ true)) → (y : A) × In y (x ∷ xs) × (p y ≡ true)
-    go (inl h) ih = (x, inl refl, h)
-    go (inr h) ih = let (y, i, q) = ih h in (y, inr i, q)
-
-pub In-any_of : {A : Type 0} (p : A → Bool) (x : A) (xs : List A) → In x xs → p x ≡ true → list_any p xs ≡ true
-In-any_of p x [] i e = absurd i
-In-any_of p x (y ∷ xs) (inl same) e = or_left (p y) _ (sym (ap p same) ∙ e)
-In-any_of p x (y ∷ xs) (inr i) e = or_right (p y) _ (In-any_of p x xs i e)
-
-pub In-flat_map_parts : {A B : Type 0} (f : A → List B) (y : B) (xs : List A) → In y (flat_map f xs) → (x : A) × In x xs × In y (f x)
-In-flat_map_parts f y [] i = absurd i
-In-flat_map_parts {A} {B} f y (x ∷ xs) i = go (In-append_cases y (f x) (flat_map f xs) i) (λ j. In-flat_map_parts f y xs j)
-  where
-    go : In y (f x) ⊎ In y (flat_map f xs) → (In y (flat_map f xs) → (z : A) × In z xs × In y (f z)) → (z : A) × In z (x ∷ xs) × In y (f z)
-    go (inl j) ih = (x, inl refl, j)
-    go (inr j) ih = let (z, k, m) = ih j in (z, inr k, m)
-
-pub corner_eq-same : (u v : Corner) → corner_eq u v ≡ true → u ≡ v
-corner_eq-same u v e =
-    let p = and_parts (u.r == v.r) (u.x == v.x) e in
-    corner-same u v (eqb-true _ _ p.0) (eqb-true _ _ p.1)
-
-pub corner_eq-refl : (v : Corner) → corner_eq v v ≡ true
-corner_eq-refl v = and_from _ _ (eq-eqb v.r v.r refl) (eq-eqb v.x v.x refl)
+use Rattle.tl_definitions.proofs.Corners.{corner_eq-same, corner_eq-refl}
 
 -- ---- cells that are there
 

@@ -12,7 +12,6 @@ use Rattle.tl_definitions.specs.declared.Corner.{Corner}
 use Rattle.tl_definitions.specs.Lattice.{cell, corner, cell_eq, corner_eq, cell_lt, corner_lt}
 use Rattle.tl_definitions.specs.Region.{places, upto}
 use Rattle.tl_definitions.specs.Accepted.{linked}
-use Rattle.tl_definitions.proofs.Sublists.{cell_lt-irreflexive, cell_lt-transitive}
 use Rattle.tl_definitions.proofs.Partners.{rows-linked}
 use Rattle.tl_definitions.proofs.Regions.{row-sound, grid-sound, any-places}
 
@@ -121,12 +120,6 @@ corner_rows-at width rows r x d h k = rows-at width rows 0 r x d h k ∙ ap (λ 
     start r = omega arith
 
 -- ---- their order
-
-pub corner_lt-irreflexive : (v : Corner) → corner_lt v v ≡ true → ⊥
-corner_lt-irreflexive v e = cell_lt-irreflexive (cell v.r v.x) e
-
-pub corner_lt-transitive : (u v w : Corner) → corner_lt u v ≡ true → corner_lt v w ≡ true → corner_lt u w ≡ true
-corner_lt-transitive u v w e f = cell_lt-transitive (cell u.r u.x) (cell v.r v.x) (cell w.r w.x) e f
 
 -- corners as cells with the same coordinates
 row-at_cells : (r : ℕ) (xs : List ℕ) → map (λ x. corner r x) xs ≡ map (λ a. corner a.r a.c) (map (λ c. cell r c) xs)

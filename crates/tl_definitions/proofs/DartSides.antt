@@ -9,7 +9,8 @@ use Rattle.tl_definitions.specs.declared.rings.Dart.{Dart}
 use Rattle.tl_definitions.specs.Lattice.{corner, is_corner, is_dark, corners, sides, Side, side}
 use Rattle.tl_definitions.specs.Darts.{darts, cell_width, other_end}
 use Rattle.tl_definitions.proofs.Sublists.{In, Each, Each-at}
-use Rattle.tl_definitions.proofs.Darts.{Lies, IsEnd, corner-same, end-is, dart}
+use Rattle.tl_definitions.proofs.Darts.{Lies, IsEnd, end-is, dart}
+use Rattle.tl_definitions.proofs.Corners.{corner-same}
 
 -- The dart ends at its other end; it is a side of the cell, in the direction told; and the corner
 -- is one of the cell's.

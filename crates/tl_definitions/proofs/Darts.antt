@@ -13,6 +13,7 @@ use Rattle.tl_definitions.specs.Lattice.{cell, corner, cell_at, cell_back, less,
 use Rattle.tl_definitions.specs.Darts.{darts, cell_width, other_end}
 use Rattle.tl_definitions.proofs.Sublists.{In, Each, Each-at}
 use Rattle.tl_definitions.proofs.Ordered.{In-list_all}
+use Rattle.tl_definitions.proofs.Corners.{corner-same}
 
 -- ---- places by coordinates
 
@@ -35,7 +36,7 @@ less-of n k m e = go (nat_lt n k) refl
     go true h = absurd (omega (arith, e, ltb-true n k h))
     go false h = let same : n - k ≡ m = omega (arith, e) in ap (λ (z : ℕ). Some z) same
 
-cell_at-some : (o p : Option ℕ) (c : Cell) → cell_at o p ≡ Some c → (o ≡ Some c.r) × (p ≡ Some c.c)
+pub cell_at-some : (o p : Option ℕ) (c : Cell) → cell_at o p ≡ Some c → (o ≡ Some c.r) × (p ≡ Some c.c)
 cell_at-some None p c e = cc e
 cell_at-some (Some r) None c e = cc e
 cell_at-some (Some r) (Some x) c e =
@@ -55,9 +56,6 @@ lies-cell_back v b c l =
 pub record IsEnd (k : Kind) (v : Corner) (g : Dart) (w : Corner) : Type 0 where
   pub row : v.r + 1 ≡ w.r + (g.left.rows + g.right.rows)
   pub column : v.x + cell_width k ≡ w.x + (g.left.columns + g.right.columns)
-
-pub corner-same : (v w : Corner) → v.r ≡ w.r → v.x ≡ w.x → v ≡ w
-corner-same v w h k = λ i. record { r = h i; x = k i }
 
 pub end-is : (k : Kind) (v w : Corner) (g : Dart) → IsEnd k v g w → w ≡ other_end k v g
 end-is k v w g e = corner-same w (other_end k v g) (omega (arith, e.row)) (omega (arith, e.column))

@@ -15,7 +15,7 @@ use Rattle.tl_definitions.specs.RegionText.{byte_at, is_blank, longest}
 use Rattle.tl_definitions.specs.Tiling.{tiles_by, later_tile}
 use Rattle.tl_definitions.specs.Marks.{row_part}
 use Rattle.tl_definitions.specs.Drawing.{named, named_at, Draws, is_allowed, first_bad_letter, is_answered, is_matched, first_unmatched, DrawingRefusal, drawing_refusal, bad_letter, unmatched, letter}
-use Rattle.tl_definitions.proofs.Regions.{cell_eq-same, cell_eq-parts, any-places, nat_cases, same_test}
+use Rattle.tl_definitions.proofs.Regions.{cell_eq-parts, any-places, nat_cases, same_test, is_cell-some}
 use Rattle.tl_definitions.proofs.Neighbours.{left-parts, above-parts, below-parts}
 use Rattle.tl_definitions.proofs.Sublists.{In, In-any, cell_eq-refl}
 use Rattle.tl_definitions.proofs.Ordered.{In-list_all}
@@ -25,10 +25,6 @@ use Rattle.tl_definitions.proofs.Partners.{IsMatched, AreMatched, tiles_by-tilin
 
 -- ---- matched cells
 
-pub is_cell-same : (a : Cell) (o : Option Cell) → is_cell a o ≡ true → o ≡ Some a
-is_cell-same a None e = cc e
-is_cell-same a (Some b) e = ap (λ (c : Cell). Some c) (sym (cell_eq-same a b e))
-
 pub matched-parts : (R : Region) (f : Cell → Option Cell) (a : Cell) → is_matched R f a ≡ true → IsMatched R f a
 matched-parts R f a e = go (f a) refl e
   where
@@ -37,7 +33,7 @@ matched-parts R f a e = go (f a) refl e
     go (Some b) h k =
         let p : ((has R b && are_neighbours R.kind a b) ≡ true) × (is_cell a (f b) ≡ true) = and_parts _ _ k in
         let q : (has R b ≡ true) × (are_neighbours R.kind a b ≡ true) = and_parts _ _ p.0 in
-        (b, h, q.0, q.1, is_cell-same a (f b) p.1)
+        (b, h, q.0, q.1, is_cell-some a (f b) p.1)
 
 pub all-matched : (R : Region) (f : Cell → Option Cell) → list_all (is_matched R f) R.cells ≡ true → AreMatched R f
 all-matched R f e a h = matched-parts R f a (In-list_all (is_matched R f) R.cells a e (In-any a R.cells h))

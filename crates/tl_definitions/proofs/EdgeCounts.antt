@@ -1,7 +1,7 @@
 -- The directed steps from a corner, counted by the darts of its ring.
 use Rattle.std.proofs.Common.{◌≡◌, ℕ, ◌+◌, ◌%◌, inl, inr, Bool, true, false, ◌&&◌, List, [], ◌∷◌, map, length, cond, Option, Some, None, refl, sym, ◌∙◌, ap, subst, arith}
 use Rattle.std.specs.Prelude.{◌==◌, filter, count_by}
-use Rattle.std.proofs.lemmas.Bool.{eqb-true, eqb-false, eq-eqb, ne_eqb}
+use Rattle.std.proofs.lemmas.Bool.{eqb-true, eqb-false, eq-eqb, ne_eqb, or_cases}
 use Rattle.std.proofs.lemmas.List.Sums.{sum_by-cons}
 use Rattle.tl_definitions.specs.declared.Kind.{Kind}
 use Rattle.tl_definitions.specs.declared.Kind.TheVariants.{Square, Triangle}
@@ -10,7 +10,7 @@ use Rattle.tl_definitions.specs.declared.rings.Dart.{Dart}
 use Rattle.tl_definitions.specs.Lattice.{corner, corner_at, less, is_corner, steps_out}
 use Rattle.tl_definitions.specs.Region.{Region, present, is_edge, steps}
 use Rattle.tl_definitions.specs.Darts.{darts, left_cell, right_cell, other_end, is_outward, is_edge_of}
-use Rattle.tl_definitions.proofs.Regions.{same_test, or-cases}
+use Rattle.tl_definitions.proofs.Regions.{same_test}
 use Rattle.tl_definitions.proofs.Sublists.{In}
 use Rattle.tl_definitions.proofs.Darts.{IsEnd, cell_back-lies, dart, less-some, less-of}
 use Rattle.tl_definitions.proofs.DartSides.{left_side, right_side}
@@ -98,7 +98,7 @@ edge_at-dart R v g o h i by = same_test (edge_at R v o) (is_edge_of R v g) (ther
     told e m = ap (edge_at R v) (by.leads (other_end R.kind v g) e) ∙ (is_edge-dart R v (other_end R.kind v g) g h i e ∙ m)
 
     back : is_edge_of R v g ≡ true → edge_at R v o ≡ true
-    back m = told (elim (or-cases _ _ m) [
+    back m = told (elim (or_cases _ _ m) [
       | inl t ↦ (let (c, is, in_R) = has_at-some R (left_cell v g) t in (left_side R.kind v c g h i (cell_back-lies v g.left c is)).ends)
       | inr t ↦ (let (c, is, in_R) = has_at-some R (right_cell v g) t in (right_side R.kind v c g h i (cell_back-lies v g.right c is)).ends)
     ]) m

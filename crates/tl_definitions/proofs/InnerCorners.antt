@@ -9,13 +9,12 @@ use Rattle.tl_definitions.specs.Lattice.{cell_back, corner_eq, is_corner, ring, 
 use Rattle.tl_definitions.specs.Region.{Region, has_at, is_inner, is_corner_of, boundary}
 use Rattle.tl_definitions.specs.Darts.{darts, left_cell, other_end, leaves}
 use Rattle.tl_definitions.specs.Boundary.{is_boundary_corner}
-use Rattle.tl_definitions.proofs.CornerRings.{any-In, In-any_of, corner_eq-same, corner_eq-refl, is_corner_of-ring}
-use Rattle.tl_definitions.proofs.Turns.{every, every-at}
+use Rattle.tl_definitions.proofs.CornerRings.{is_corner_of-ring}
+use Rattle.tl_definitions.proofs.Turns.{goes, every, every-at}
 use Rattle.tl_definitions.proofs.BoundarySides.{boundary-leaves}
 use Rattle.tl_definitions.proofs.NextCorner.{leaves-from, leaves-side}
-
-abbrev goes : Bool → Bool → Bool
-goes a b = a && not b
+use Rattle.tl_definitions.proofs.Sublists.{any-In, In-any_of}
+use Rattle.tl_definitions.proofs.Corners.{corner_eq-same, corner_eq-refl}
 
 -- Where some place of a ring is taken and none of the taken ones is followed by one that isn't, all are taken.
 abbrev fits : Bool → Bool → Bool → Bool

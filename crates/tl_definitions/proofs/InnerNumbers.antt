@@ -1,8 +1,8 @@
 -- Inner corners: where they lie, and the number of each.
-use Rattle.std.proofs.Common.{◌≡◌, ℕ, zero, suc, ◌+◌, ◌-◌, ◌<◌, ◌≤◌, ◌⊎◌, inl, inr, Bool, true, false, not, ◌&&◌, cond, List, [], ◌∷◌, ◌++◌, length, refl, sym, ◌∙◌, ap, subst, arith, Option, Some, None, eqb}
+use Rattle.std.proofs.Common.{◌≡◌, ℕ, zero, suc, ◌+◌, ◌-◌, ◌<◌, ◌≤◌, ◌⊎◌, inl, inr, Bool, true, false, not, ◌&&◌, cond, List, [], ◌∷◌, ◌++◌, length, refl, sym, ◌∙◌, ap, subst, arith, Option, Some, None}
 use Rattle.std.specs.Prelude.{filter, nat_lt, slice_get, position, is_some}
 use Rattle.std.specs.List.{list_any, list_all, position_or_len}
-use Rattle.std.proofs.lemmas.Bool.{and_parts, or_parts, or_left, or_right, or_cases, or_from, cases_Bool, false_from_ne_true, lt-ltb, le-ltb, eqb-true, eq-eqb, cases_lt}
+use Rattle.std.proofs.lemmas.Bool.{and_parts, or_parts, or_left, or_right, or_cases, or_from, cases_Bool, false_from_ne_true, lt-ltb, le-ltb, cases_lt}
 use Rattle.std.proofs.lemmas.List.Folds.{list_any-append}
 use Rattle.std.proofs.lemmas.Map.Views.{any-filter_same}
 use Rattle.std.proofs.Math.Numerals.{one-add}
@@ -12,23 +12,11 @@ use Rattle.tl_definitions.specs.declared.Corner.{Corner}
 use Rattle.tl_definitions.specs.Lattice.{cell, corner_eq, corner_lt, is_corner, cell_back, ring}
 use Rattle.tl_definitions.specs.Region.{Region, has, has_at, corner_places, is_inner, inner_corners}
 use Rattle.tl_definitions.specs.Accepted.{linked, IsPlaced}
-use Rattle.tl_definitions.proofs.Sublists.{In, later, linked-tail}
+use Rattle.tl_definitions.proofs.Sublists.{later, linked-tail, slice_get-In}
 use Rattle.tl_definitions.proofs.Ordered.{In-filter_parts, linked-filter}
 use Rattle.tl_definitions.proofs.Regions.{same_test, has-within}
-use Rattle.tl_definitions.proofs.CornerRows.{corner_rows, any-corner_rows, corner_lt-irreflexive, corner_lt-transitive, corner_rows-linked}
-
-pub corner_eq-parts : (u v : Corner) → corner_eq u v ≡ true → (u.r ≡ v.r) × (u.x ≡ v.x)
-corner_eq-parts u v e =
-    let p : (eqb u.r v.r ≡ true) × (eqb u.x v.x ≡ true) = and_parts (eqb u.r v.r) (eqb u.x v.x) e in
-    (eqb-true _ _ p.0, eqb-true _ _ p.1)
-
-pub corner_eq-same : (u v : Corner) → corner_eq u v ≡ true → u ≡ v
-corner_eq-same u v e =
-    let p : (u.r ≡ v.r) × (u.x ≡ v.x) = corner_eq-parts u v e in
-    λ i. record { r = p.0 i; x = p.1 i }
-
-pub corner_eq-refl : (v : Corner) → corner_eq v v ≡ true
-corner_eq-refl v = rw (eq-eqb v.r v.r refl, eq-eqb v.x v.x refl) refl
+use Rattle.tl_definitions.proofs.CornerRows.{corner_rows, any-corner_rows, corner_rows-linked}
+use Rattle.tl_definitions.proofs.Corners.{corner_lt-irreflexive, corner_lt-transitive, corner_eq-same, corner_eq-refl}
 
 -- ---- where they lie
 
@@ -188,12 +176,6 @@ inner_corners-linked R =
     ap (linked corner_lt) (inner_corners-rows R)
     ∙ linked-filter corner_lt corner_lt-irreflexive corner_lt-transitive (is_inner R) (corner_rows (R.columns + 2) (R.rows + 1)) (corner_rows-linked (R.columns + 2) (R.rows + 1))
 
-In-at : {A : Type 0} (xs : List A) (n : ℕ) (a : A) → slice_get xs n ≡ Some a → In a xs
-In-at [] zero a e = cc e
-In-at [] (suc n) a e = cc e
-In-at (x ∷ xs) zero a e = let same : x ≡ a = cc e in inl (sym same)
-In-at (x ∷ xs) (suc n) a e = inr (In-at xs n a e)
-
 number-linked : (vs : List Corner) (n : ℕ) (v : Corner) → linked corner_lt vs ≡ true → slice_get vs n ≡ Some v
     → (list_any (corner_eq v) vs ≡ true) × (position_or_len (corner_eq v) vs ≡ n)
 number-linked [] zero v l e = cc e
@@ -204,7 +186,7 @@ number-linked (u ∷ us) zero v l e =
     (or_left (corner_eq v u) _ same, rw same refl)
 number-linked (u ∷ us) (suc n) v l e =
     let rest = number-linked us n v (linked-tail corner_lt corner_lt-irreflexive corner_lt-transitive u us l) e in
-    let above : corner_lt u v ≡ true = later corner_lt corner_lt-irreflexive corner_lt-transitive u us v l (In-at us n v e) in
+    let above : corner_lt u v ≡ true = later corner_lt corner_lt-irreflexive corner_lt-transitive u us v l (slice_get-In us n v e) in
     let differ : corner_eq v u ≡ false = false_from_ne_true _ (λ t. corner_lt-irreflexive v (subst (λ w. corner_lt w v ≡ true) (sym (corner_eq-same v u t)) above)) in
     (or_right (corner_eq v u) _ rest.0, rw differ (omega (arith, rest.1)))
 
@@ -216,7 +198,7 @@ inner-number R v n e =
 
 -- what stands in the list is an inner corner
 pub inner-at : (R : Region) (v : Corner) (n : ℕ) → slice_get (inner_corners R) n ≡ Some v → is_inner R v ≡ true
-inner-at R v n e = (In-filter_parts (is_inner R) v (corner_places R) (In-at (inner_corners R) n v e)).1
+inner-at R v n e = (In-filter_parts (is_inner R) v (corner_places R) (slice_get-In (inner_corners R) n v e)).1
 
 -- A pair has a number exactly where it is an inner corner.
 pub is_some-number : (R : Region) (v : Corner) → IsPlaced R → is_some (position (corner_eq v) (inner_corners R)) ≡ is_inner R v

@@ -1,22 +1,23 @@
 -- Laws of the definitions: what is determined is determined once, and cases that exclude each other do.
-use Rattle.std.proofs.Common.{◌≡◌, ℕ, ◌<◌, ◌≤◌, Bool, true, false, List, [], ◌∷◌, refl, sym, ◌∙◌, subst, arith, codes, length, Ok, Err}
-use Rattle.std.specs.Prelude.{filter, IsTrue, ◌^◌, Result}
+use Rattle.std.proofs.Common.{◌≡◌, ℕ, ◌<◌, ◌≤◌, Bool, true, List, [], ◌∷◌, refl, sym, ◌∙◌, subst, arith, codes, length, Ok, Err}
+use Rattle.std.specs.Prelude.{◌^◌, Result}
 use Rattle.tl_definitions.specs.declared.Kind.TheVariants.{Square}
 use Rattle.tl_definitions.specs.declared.Tile.{Tile}
 use Rattle.tl_definitions.specs.Lattice.{cell, cell_eq}
 use Rattle.tl_definitions.specs.declared.Cell.{Cell}
-use Rattle.std.proofs.lemmas.Bool.{eq-eqb}
+use Rattle.std.proofs.lemmas.Bool.{or_left}
 use Rattle.std.specs.List.{list_any}
-use Rattle.std.specs.Prelude.{slice_get, ◌||◌, ◌&&◌, Some}
+use Rattle.std.specs.Prelude.{slice_get, Some}
 use Rattle.tl_definitions.specs.Region.{Region}
-use Rattle.tl_definitions.specs.Accepted.{Accepted, linked}
+use Rattle.tl_definitions.specs.Accepted.{Accepted}
 use Rattle.tl_definitions.specs.RegionText.{region_of, RegionRefusal, BreaksRule, empty, parts, pinch, hole}
-use Rattle.tl_definitions.specs.Tiling.{tiles, tile_lt, is_tiling}
-use Rattle.tl_definitions.specs.Sweep.{carried, Gathers, IsSample, IsLate}
+use Rattle.tl_definitions.specs.Sweep.{Gathers, IsSample, IsLate}
 use Rattle.tl_definitions.specs.Powers.{IsLeastPower}
 use Rattle.tl_definitions.specs.declared.Corner.{Corner}
 use Rattle.tl_definitions.specs.Flip.{IsShortestFlipPath, IsFlipDistance}
-use Rattle.tl_definitions.proofs.Sublists.{sublists, In-tilings, Each, Each-at}
+use Rattle.tl_definitions.proofs.Sublists.{cell_eq-refl}
+use Rattle.tl_definitions.proofs.Regions.{some_same}
+use Rattle.tl_definitions.proofs.Cases.{gathers_from}
 
 -- a sample that has a start isn't late, and two samples from one start are the same
 at_not_late : (R : Region) (bits : ℕ → ℕ → Bool) (bound T : ℕ) (S : List Tile) → IsSample R bits bound T S → IsLate R bits bound → ⊥
@@ -42,13 +43,6 @@ no_hole : (R : Region) → Accepted R → BreaksRule R hole → ⊥
 no_hole R a b = b.3 (a.circuit, a.euler)
 
 -- a region with no inner corner: the start is 1 under every bound, 0 among them, whatever the bits
-abbrev found : Region → List (List Tile)
-found R = filter (is_tiling R) (sublists (tiles R))
-
-gathers_from : (R : Region) (bits : ℕ → ℕ → Bool) (T : ℕ) (S : List Tile) → linked tile_lt (tiles R) ≡ true
-    → Each (λ A. carried R bits T A ≡ S) (found R) → (A : List Tile) → IsTrue (is_tiling R A) → carried R bits T A ≡ S
-gathers_from R bits T S l each A t = Each-at (λ B. carried R bits T B ≡ S) A (found R) each (In-tilings R A l t)
-
 abbrev domino : Region
 domino = region_of Square (codes "##" ∷ [])
 
@@ -69,7 +63,7 @@ no_corner bits bound = record {
 }
 
 -- the start of a sample is one, and its distance from a tiling too
-same_power : (P : ℕ → Type 0) (bound T T' : ℕ) → IsLeastPower P bound T → IsLeastPower P bound T' → T ≡ T'
+pub same_power : (P : ℕ → Type 0) (bound T T' : ℕ) → IsLeastPower P bound T → IsLeastPower P bound T' → T ≡ T'
 same_power P bound T T' l m =
     let e = same_exponent l.exponent m.exponent (λ h. m.least l.exponent h (subst P l.power l.holds)) (λ h. l.least m.exponent h (subst P m.power m.holds)) in
     l.power ∙ subst (λ n. 2 ^ l.exponent ≡ 2 ^ n) e refl ∙ sym m.power
@@ -84,23 +78,9 @@ same_distance : (R : Region) (A B : List Tile) (m n : ℕ) → IsFlipDistance R 
 same_distance R A B m n d e = sym d.2 ∙ same_length R A B d.0 e.0 d.1 e.1 ∙ e.2
 
 -- a pinch is named only of a region in one part
-cell_eq-itself : (a : Cell) → cell_eq a a ≡ true
-cell_eq-itself a = and_true _ _ (eq-eqb a.r a.r refl) (eq-eqb a.c a.c refl)
-  where
-    and_true : (s t : Bool) → s ≡ true → t ≡ true → (s && t) ≡ true
-    and_true true t e f = f
-    and_true false t e f = e
-
-some_same : (a b : Cell) → Some a ≡ Some b → b ≡ a
-some_same a b e = cc e
-
 first_has : (cells : List Cell) (s : Cell) → slice_get cells 0 ≡ Some s → list_any (cell_eq s) cells ≡ true
 first_has [] s e = cc e
-first_has (c ∷ cs) s e = subst (λ x. (cell_eq x c || list_any (cell_eq x) cs) ≡ true) (sym (some_same c s e)) (or_true _ _ (cell_eq-itself c))
-  where
-    or_true : (s t : Bool) → s ≡ true → (s || t) ≡ true
-    or_true true t e = refl
-    or_true false t e = cc e
+first_has (c ∷ cs) s e = or_left _ _ (subst (λ x. cell_eq x c ≡ true) (some_same c s e) (cell_eq-refl c))
 
 not_parts_and_pinch : (R : Region) (a : Cell) (v : Corner) → BreaksRule R (parts a) → BreaksRule R (pinch v) → ⊥
 not_parts_and_pinch R a v p q = p.parted (q.1 p.start a (first_has R.cells p.start p.is_start) p.inside)

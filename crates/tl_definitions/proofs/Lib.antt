@@ -1,5 +1,6 @@
 pub mod Regions
 pub mod Joined
+pub mod Corners
 pub mod Darts
 pub mod DartSides
 pub mod CornerRings
@@ -15,6 +16,7 @@ pub mod Neighbours
 pub mod Decide
 pub mod Sublists
 pub mod Ordered
+pub mod Tilings
 pub mod Partners
 pub mod Drawings
 pub mod Lines
@@ -35,4 +37,4 @@ mod SampleExamples
 mod TextExamples
 mod RefusalExamples
 mod EdgeExamples
-mod Laws
+pub mod Laws

@@ -2,7 +2,7 @@
 use Rattle.std.proofs.Common.{◌≡◌, ◌-◌, ◌≤◌, ◌⊎◌, inl, inr, Bool, true, false, not, List, [], ◌∷◌, cond, Option, Some, None, refl, sym, ◌∙◌, ap, subst, arith}
 use Rattle.std.specs.Prelude.{find, is_some}
 use Rattle.std.specs.List.{list_any}
-use Rattle.std.proofs.lemmas.Bool.{and_parts, and_from}
+use Rattle.std.proofs.lemmas.Bool.{and_parts, and_from, not-true}
 use Rattle.tl_definitions.specs.declared.Cell.{Cell}
 use Rattle.tl_definitions.specs.declared.Corner.{Corner}
 use Rattle.tl_definitions.specs.declared.rings.Dart.{Dart}
@@ -11,17 +11,14 @@ use Rattle.tl_definitions.specs.Region.{Region, has_at, boundary}
 use Rattle.tl_definitions.specs.Accepted.{is_pinch}
 use Rattle.tl_definitions.specs.Darts.{darts, left_cell, right_cell, other_end, leaves, enters}
 use Rattle.tl_definitions.specs.Boundary.{side_from, is_boundary_corner}
-use Rattle.tl_definitions.proofs.Regions.{same_test}
-use Rattle.tl_definitions.proofs.Sublists.{In}
+use Rattle.tl_definitions.proofs.Regions.{same_test, some_same}
+use Rattle.tl_definitions.proofs.Sublists.{In, any-In, In-any_of}
 use Rattle.tl_definitions.proofs.Darts.{Lies, cell_back-lies}
 use Rattle.tl_definitions.proofs.Ordered.{find-only}
-use Rattle.tl_definitions.proofs.CornerRings.{any-In, In-any_of, corner_eq-same, corner_eq-refl, has_at-some, has-has_at}
+use Rattle.tl_definitions.proofs.CornerRings.{has_at-some, has-has_at}
 use Rattle.tl_definitions.proofs.Turns.{one_leaves, one_enters, leaves_where_enters, enters_where_leaves}
 use Rattle.tl_definitions.proofs.BoundarySides.{LeavesThrough, ComesThrough, boundary-corners, boundary-leaves, boundary-comes, leaving_side, coming_side}
-
-not_parts : (b : Bool) → not b ≡ true → b ≡ false
-not_parts true e = cc e
-not_parts false e = refl
+use Rattle.tl_definitions.proofs.Corners.{corner_eq-same, corner_eq-refl}
 
 -- the dart of a boundary side, as a test
 pub leaves-from : (R : Region) (s : Side) (g : Dart) → LeavesThrough R s g → leaves R s.from g ≡ true
@@ -36,14 +33,14 @@ pub leaves-side : (R : Region) (v : Corner) (g : Dart) → is_corner R.kind v �
 leaves-side R v g h i e =
     let p = and_parts (has_at R (left_cell v g)) (not (has_at R (right_cell v g))) e in
     let (c, is, in_R) = has_at-some R (left_cell v g) p.0 in
-    (c, is, leaving_side R v g c h i is in_R (not_parts _ p.1))
+    (c, is, leaving_side R v g c h i is in_R (not-true _ p.1))
 
 pub enters-side : (R : Region) (v : Corner) (g : Dart) → is_corner R.kind v ≡ true → In g (darts R.kind) → enters R v g ≡ true
     → (c : Cell) × (right_cell v g ≡ Some c) × In (side c (other_end R.kind v g) v) (boundary R)
 enters-side R v g h i e =
     let p = and_parts (not (has_at R (left_cell v g))) (has_at R (right_cell v g)) e in
     let (c, is, in_R) = has_at-some R (right_cell v g) p.1 in
-    (c, is, coming_side R v g c h i is in_R (not_parts _ p.0))
+    (c, is, coming_side R v g c h i is in_R (not-true _ p.0))
 
 -- a boundary side leaves where one comes, and comes where one leaves
 pub side_after : (R : Region) (s : Side) → In s (boundary R) → (t : Side) × In t (boundary R) × (t.from ≡ s.to)
@@ -60,9 +57,6 @@ side_before R s i =
     let (c, is, k) = enters-side R s.from h (boundary-corners R s i).0 j e in
     (side c (other_end R.kind s.from h) s.from, k, refl)
 
-some_cell : (a b : Cell) → Some a ≡ Some b → a ≡ b
-some_cell a b e = cc e
-
 same_side : (s t : Side) → s.cell ≡ t.cell → s.from ≡ t.from → s.to ≡ t.to → s ≡ t
 same_side s t e f g = λ i. record { cell = e i; from = f i; to = g i }
 
@@ -74,7 +68,7 @@ one_side_from R s t p i j e =
     let same : h ≡ g = one_leaves R s.from h g p m.dart (subst (λ v. leaves R v h ≡ true) e (leaves-from R t h m)) l.dart (leaves-from R s g l) in
     let cells : left_cell s.from g ≡ Some t.cell = subst (λ d. left_cell s.from d ≡ Some t.cell) same (subst (λ v. left_cell v h ≡ Some t.cell) e m.cell) in
     let ends : t.to ≡ other_end R.kind s.from g = subst (λ d. t.to ≡ other_end R.kind s.from d) same (subst (λ v. t.to ≡ other_end R.kind v h) e m.ends) in
-    same_side s t (some_cell s.cell t.cell (sym l.cell ∙ cells)) (sym e) (l.ends ∙ sym ends)
+    same_side s t (some_same s.cell t.cell (sym l.cell ∙ cells)) (sym e) (l.ends ∙ sym ends)
 
 -- and so are two that come to one.
 pub one_side_to : (R : Region) (s t : Side) → is_pinch R s.to ≡ false → In s (boundary R) → In t (boundary R) → t.to ≡ s.to → s ≡ t
@@ -84,7 +78,7 @@ one_side_to R s t p i j e =
     let same : h ≡ g = one_enters R s.to h g p m.dart (subst (λ v. enters R v h ≡ true) e (enters-from R t h m)) l.dart (enters-from R s g l) in
     let cells : right_cell s.to g ≡ Some t.cell = subst (λ d. right_cell s.to d ≡ Some t.cell) same (subst (λ v. right_cell v h ≡ Some t.cell) e m.cell) in
     let begins : t.from ≡ other_end R.kind s.to g = subst (λ d. t.from ≡ other_end R.kind s.to d) same (subst (λ v. t.from ≡ other_end R.kind v h) e m.begins) in
-    same_side s t (some_cell s.cell t.cell (sym l.cell ∙ cells)) (l.begins ∙ sym begins) (sym e)
+    same_side s t (some_same s.cell t.cell (sym l.cell ∙ cells)) (l.begins ∙ sym begins) (sym e)
 
 -- the boundary side from a corner
 pub find_from : (R : Region) (s : Side) → is_pinch R s.from ≡ false → In s (boundary R) → find (λ t. corner_eq t.from s.from) (boundary R) ≡ Some s
@@ -98,9 +92,6 @@ pub find-In : {A : Type 0} (p : A → Bool) (xs : List A) (x : A) → find p xs 
 find-In p [] x e = cc e
 find-In {A} p (y ∷ xs) x e = go (p y) refl e (λ f. find-In p xs x f)
   where
-    some_same : (a b : A) → Some a ≡ Some b → a ≡ b
-    some_same a b h = cc h
-
     go : (t : Bool) → p y ≡ t → cond t (Some y) (find p xs) ≡ Some x → (find p xs ≡ Some x → In x xs × (p x ≡ true)) → In x (y ∷ xs) × (p x ≡ true)
     go true h f ih = (inl (sym (some_same y x f)), subst (λ z. p z ≡ true) (some_same y x f) h)
     go false h f ih = let q = ih f in (inr q.0, q.1)

@@ -1,8 +1,8 @@
 -- A tiling and its partners determine each other.
-use Rattle.std.proofs.Common.{◌≡◌, ℕ, zero, suc, ◌+◌, ◌*◌, ◌/◌, ◌<◌, ◌≤◌, ◌⊎◌, inl, inr, Bool, true, false, ◌&&◌, List, [], ◌∷◌, ◌++◌, refl, sym, ◌∙◌, ap, subst, arith, Option, Some, None}
+use Rattle.std.proofs.Common.{◌≡◌, ℕ, zero, suc, ◌+◌, ◌<◌, ◌≤◌, ◌⊎◌, inl, inr, Bool, true, false, List, [], ◌∷◌, refl, sym, ◌∙◌, ap, subst, arith, Option, Some, None}
 use Rattle.std.specs.Prelude.{flat_map, count_by, nat_lt, ◌==◌, if◌then◌else◌, option_map}
 use Rattle.std.specs.List.{list_any, cons_option, range_with_len}
-use Rattle.std.proofs.lemmas.Bool.{and_parts, and_from, or_cases, or_left, or_right, eq-eqb, ltb-true, ltb-false}
+use Rattle.std.proofs.lemmas.Bool.{and_from, or_cases, or_left, or_right, eq-eqb, ltb-true, ltb-false}
 use Rattle.tl_definitions.specs.declared.Cell.{Cell}
 use Rattle.tl_definitions.specs.declared.Tile.{Tile}
 use Rattle.tl_definitions.specs.Lattice.{cell, cell_eq, cell_lt, are_neighbours}
@@ -10,10 +10,9 @@ use Rattle.tl_definitions.specs.Region.{Region, has, places}
 use Rattle.tl_definitions.specs.Accepted.{linked, IsPlaced}
 use Rattle.tl_definitions.specs.Tiling.{tile_lt, covers, is_tile, is_tiling, other_cell, partner, later_tile, tiles_by}
 use Rattle.tl_definitions.specs.Marks.{row_part}
-use Rattle.tl_definitions.proofs.Regions.{cell_eq-same, cell_eq-of_parts, nat_cases, any-filter-places}
-use Rattle.std.proofs.lemmas.Nat.{div-mul-add}
+use Rattle.tl_definitions.proofs.Regions.{some_same, cell_eq-same, cell_eq-of_parts, nat_cases}
 use Rattle.tl_definitions.proofs.Neighbours.{neighbours-back, neighbours-differ}
-use Rattle.tl_definitions.proofs.Sublists.{In, In-any, later, linked-tail, cell_lt-from, cell_lt-irreflexive, cell_lt-transitive, cell_eq-refl, tile_lt-from, tile_lt-irreflexive, tile_lt-transitive}
+use Rattle.tl_definitions.proofs.Sublists.{In, In-any, later, linked-tail, cell_lt-from, cell_lt-irreflexive, cell_lt-transitive, cell_eq-refl, tile_lt-from, tile_lt-irreflexive, tile_lt-transitive, In-append_cases}
 use Rattle.tl_definitions.proofs.Ordered.{list_all-In, In-filter_map, In-filter_map_parts, linked-cons, linked-append, linked-filter, count_by-only, find-only, Only}
 
 -- ---- cells in raster order
@@ -29,11 +28,6 @@ row-linked r c (suc n) =
     linked-cons cell_lt cell_lt-irreflexive cell_lt-transitive (cell r c) (row_part r (c + 1) n)
     (λ z i. let p = row-cell z r (c + 1) n i in cell_lt-from (cell r c) z (inr (sym p.0, omega (arith, p.1))))
     (row-linked r (c + 1) n)
-
-pub In-append_cases : {A : Type 0} (x : A) (xs ys : List A) → In x (xs ++ ys) → In x xs ⊎ In x ys
-In-append_cases x [] ys i = inr i
-In-append_cases x (y ∷ xs) ys (inl e) = inl (inl e)
-In-append_cases x (y ∷ xs) ys (inr i) = elim (In-append_cases x xs ys i) [ inl j ↦ inl (inr j) | inr j ↦ inr j ]
 
 rows-cell : (a : Cell) (columns r n : ℕ) → In a (flat_map (λ r. row_part r 0 columns) (range_with_len r n)) → r ≤ a.r
 rows-cell a columns r zero i = absurd i
@@ -128,9 +122,6 @@ tiles_by-linked f (a ∷ cells) l = go (later_tile a (f a)) refl (tiles_by-linke
 module _ (R : Region) (f : Cell → Option Cell) (placed : IsPlaced R) (matched : AreMatched R f) where
   A : List Tile
   A = tiles_by f R.cells
-
-  some_same : (x y : Cell) → Some x ≡ Some y → x ≡ y
-  some_same x y e = cc e
 
   -- a tile that covers a cell is that of the cell and its partner
   covered : (a b : Cell) (t : Tile) → f a ≡ Some b → In t A → covers t a ≡ true
@@ -231,19 +222,3 @@ module _ (R : Region) (f : Cell → Option Cell) (placed : IsPlaced R) (matched 
       let (t, o, other) = stands_in_one a (matched a h).0 h (matched a h).1 in
       ap (λ (x : Option Tile). option_map (λ s. other_cell s a) x) (find-only (λ s. covers s a) (tiles_by f R.cells) t o.inside o.passes o.only)
       ∙ (ap (λ (c : Cell). Some c) other ∙ sym (matched a h).1)
-
--- ---- places of a region
-
-pub has-within : (R : Region) (a : Cell) → IsPlaced R → has R a ≡ true → (a.r < R.rows) × (a.c < R.columns)
-has-within R a placed h =
-    let p : (has R a ≡ true) × ((nat_lt a.r R.rows && nat_lt a.c R.columns) ≡ true) =
-    and_parts _ _ (sym (any-filter-places (has R) a R.rows R.columns) ∙ (ap (list_any (cell_eq a)) (sym placed) ∙ h)) in
-    let q : (nat_lt a.r R.rows ≡ true) × (nat_lt a.c R.columns ≡ true) = and_parts _ _ p.1 in
-    (ltb-true _ _ q.0, ltb-true _ _ q.1)
-
--- two cells with one place in a row-major list are in one row and column
-pub same_place : (a b : Cell) (w : ℕ) → a.c < w → b.c < w → a.r * w + a.c ≡ b.r * w + b.c → (a.r ≡ b.r) × (a.c ≡ b.c)
-same_place a b w h k e =
-    let rows : a.r ≡ b.r = sym (div-mul-add a.r w a.c h) ∙ ap (λ (n : ℕ). n / w) e ∙ div-mul-add b.r w b.c k in
-    let start : a.r * w ≡ b.r * w = ap (λ (n : ℕ). n * w) rows in
-    (rows, omega (arith, e, start))

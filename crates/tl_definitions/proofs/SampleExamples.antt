@@ -1,7 +1,7 @@
 -- Accepted regions, their samples, and regions without a tiling: what is said of all tilings is proved by
 -- going through all lists of tiles.
-use Rattle.std.proofs.Common.{◌≡◌, ℕ, ◌<◌, ◌≤◌, Bool, true, false, List, [], ◌∷◌, refl, sym, ◌∙◌, subst, arith, codes, pos, length}
-use Rattle.std.specs.Prelude.{filter, IsTrue, ◌^◌}
+use Rattle.std.proofs.Common.{◌≡◌, ℕ, ◌<◌, ◌≤◌, Bool, true, false, List, [], ◌∷◌, refl, sym, ◌∙◌, subst, arith, codes, length}
+use Rattle.std.specs.Prelude.{IsTrue, ◌^◌}
 use Rattle.tl_definitions.specs.declared.Kind.TheVariants.{Square, Triangle}
 use Rattle.tl_definitions.specs.declared.Tile.{Tile}
 use Rattle.tl_definitions.specs.Lattice.{cell, corner}
@@ -9,21 +9,12 @@ use Rattle.tl_definitions.specs.Region.{Region}
 use Rattle.tl_definitions.specs.Accepted.{Accepted, linked}
 use Rattle.tl_definitions.specs.RegionText.{region_of}
 use Rattle.tl_definitions.specs.Tiling.{tiles, tile_lt, is_tiling, HasTiling}
-use Rattle.tl_definitions.specs.Obstruction.{IsGap}
 use Rattle.tl_definitions.specs.Sweep.{carried, Gathers, IsSample, IsLate}
 use Rattle.tl_definitions.specs.Flip.{IsFlipPath, IsFlipDistance, IsTop, IsBottom}
 use Rattle.tl_definitions.specs.declared.Corner.{Corner}
-use Rattle.tl_definitions.proofs.Cases.{walk_of, drawn, tiling_eq, first_bits}
+use Rattle.tl_definitions.proofs.Cases.{walk_of, drawn, tiling_eq, first_bits, found, gathers_from}
 use Rattle.tl_definitions.proofs.Decide.{one_part}
-use Rattle.tl_definitions.proofs.Sublists.{sublists, In, In-tilings, Each, Each-at}
-
-abbrev found : Region → List (List Tile)
-found R = filter (is_tiling R) (sublists (tiles R))
-
--- a start from which each tiling that was found is carried to one gathers
-gathers_from : (R : Region) (bits : ℕ → ℕ → Bool) (T : ℕ) (S : List Tile) → linked tile_lt (tiles R) ≡ true
-    → Each (λ A. carried R bits T A ≡ S) (found R) → (A : List Tile) → IsTrue (is_tiling R A) → carried R bits T A ≡ S
-gathers_from R bits T S l each A t = Each-at (λ B. carried R bits T B ≡ S) A (found R) each (In-tilings R A l t)
+use Rattle.tl_definitions.proofs.Sublists.{In, In-tilings, Each}
 
 sample_at_1 : (R : Region) (bits : ℕ → ℕ → Bool) (bound : ℕ) (S : List Tile) → linked tile_lt (tiles R) ≡ true → is_tiling R S ≡ true
     → Each (λ A. carried R bits 1 A ≡ S) (found R) → IsSample R bits bound 1 S
@@ -208,21 +199,6 @@ accepted_steep = record {
   no_pinch = refl;
   circuit = (walk_of steep, record { on_boundary = refl; whole = refl; closed = refl; once = refl; first = refl });
   euler = refl;
-}
-
-gap_steep : IsGap steep (pos 5) (corner 2 2 ∷ corner 1 2 ∷ [])
-gap_steep = record {
-  walk = walk_of steep;
-  circuit = record { on_boundary = refl; whole = refl; closed = refl; once = refl; first = refl };
-  k = 5;
-  l = 12;
-  k_on_circuit = omega arith;
-  l_on_circuit = omega arith;
-  begins = refl;
-  ends = refl;
-  directed = refl;
-  difference = refl;
-  too_steep = omega arith;
 }
 
 -- ---- gen --summary

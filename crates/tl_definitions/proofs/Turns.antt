@@ -10,9 +10,8 @@ use Rattle.tl_definitions.specs.Lattice.{cell_back, ring}
 use Rattle.tl_definitions.specs.Region.{Region, has_at}
 use Rattle.tl_definitions.specs.Accepted.{runs, is_pinch, turned}
 use Rattle.tl_definitions.specs.Darts.{darts, leaves, enters}
-use Rattle.tl_definitions.proofs.Sublists.{In}
+use Rattle.tl_definitions.proofs.Sublists.{In, any-In}
 use Rattle.tl_definitions.proofs.Ordered.{count_by-fails, count_zero, only-count_by}
-use Rattle.tl_definitions.proofs.CornerRings.{any-In}
 use Rattle.std.proofs.lemmas.Bool.{and_parts, or_parts, eqb-true, leb-false}
 
 -- The runs round a corner are as many as the darts along which the boundary comes to it.
@@ -25,7 +24,7 @@ runs-enters R v = go R.kind
 
 -- ---- as often from the corner as to it
 
-abbrev goes : Bool → Bool → Bool
+abbrev pub goes : Bool → Bool → Bool
 goes a b = a && not b
 
 abbrev comes : Bool → Bool → Bool

@@ -9,10 +9,10 @@ use Rattle.tl_definitions.specs.Region.{Region, boundary, side_eq}
 use Rattle.tl_definitions.specs.Accepted.{turned, is_pinch, distinct, circuit_corners}
 use Rattle.tl_definitions.specs.Boundary.{IsClosedWalk}
 use Rattle.tl_definitions.proofs.Regions.{cell_eq-same}
-use Rattle.tl_definitions.proofs.Sublists.{In, In-map, cell_eq-refl}
+use Rattle.tl_definitions.proofs.Sublists.{In, In-map, cell_eq-refl, any-In, In-any_of, In-map_parts}
 use Rattle.tl_definitions.proofs.Ordered.{list_all-In, In-list_all}
-use Rattle.tl_definitions.proofs.CornerRings.{any-In, In-any_of, corner_eq-same, corner_eq-refl}
 use Rattle.tl_definitions.proofs.NextCorner.{side_after, one_side_to}
+use Rattle.tl_definitions.proofs.Corners.{corner_eq-same, corner_eq-refl}
 
 -- ---- sides and corners as members
 
@@ -39,11 +39,6 @@ corner-In v vs e = let (u, i, q) = any-In (corner_eq v) vs e in subst (λ z. In 
 
 pub In-corner : (v : Corner) (vs : List Corner) → In v vs → list_any (corner_eq v) vs ≡ true
 In-corner v vs i = In-any_of (corner_eq v) v vs i (corner_eq-refl v)
-
-pub In-map_parts : {A B : Type 0} (f : A → B) (y : B) (xs : List A) → In y (map f xs) → (x : A) × In x xs × (y ≡ f x)
-In-map_parts f y [] i = absurd i
-In-map_parts f y (x ∷ xs) (inl e) = (x, inl refl, e)
-In-map_parts {A} {B} f y (x ∷ xs) (inr i) = let (z, j, e) = In-map_parts f y xs i in (z, inr j, e)
 
 -- ---- distinct corners
 

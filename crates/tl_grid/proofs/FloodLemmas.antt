@@ -13,22 +13,19 @@ use Rattle.tl_definitions.specs.Lattice.{cell_eq, cell_lt, is_cell, neighbours, 
 use Rattle.tl_definitions.specs.Region.{Region, has}
 use Rattle.tl_definitions.specs.Accepted.{AreJoined, linked}
 use Rattle.tl_definitions.specs.RegionText.{InOnePart, IsFirstParted}
-use Rattle.tl_definitions.proofs.Regions.{cell_eq-same, cell_eq-of_parts, has-within}
+use Rattle.tl_definitions.proofs.Regions.{cell_eq-same, cell_eq-of_parts, has-within, some_same, same_place}
 use Rattle.tl_definitions.proofs.Sublists.{In, In-any, later, linked-tail, cell_lt-irreflexive, cell_lt-transitive}
 use Rattle.tl_definitions.proofs.Partners.{cells-linked, In-has}
-use Rattle.tl_definitions.proofs.Joined.{some_same, joined_here, joined_before, joined_back, closed_has, in_one_part}
+use Rattle.tl_definitions.proofs.Joined.{joined_here, joined_before, joined_back, closed_has, in_one_part}
 use Rattle.tl_definitions.proofs.Neighbours.{neighbours-back}
+use Rattle.tl_definitions.proofs.NextCorner.{find-none}
 use Rattle.tl_lattice.specs.Places.{padded}
 use Rattle.tl_grid.specs.declared.parts.Flood.{Flood}
 use Rattle.tl_grid.specs.Grid.{flag_at, IsKept}
 use Rattle.tl_grid.specs.Flood.{HasFlags, is_reached, is_waiting, work, Reaches, IsFlood, AreFlagsOfPart}
-use Rattle.tl_grid.proofs.GridLemmas.{same_place, place-within}
+use Rattle.tl_grid.proofs.GridLemmas.{place-within, or_false}
 
 -- ---- what is reached
-
-or_false : (b : Bool) → (b || false) ≡ b
-or_false true = refl
-or_false false = refl
 
 -- where nothing is found that is new, nothing changes
 pub reaches_known : (R : Region) (found : List (Option Cell)) (flood : Flood)
@@ -220,7 +217,7 @@ first-has R start e = go R.cells e
   where
     go : (cells : List Cell) → slice_get cells 0 ≡ Some start → list_any (cell_eq start) cells ≡ true
     go [] e = cc e
-    go (x ∷ xs) e = or_left _ _ (cell_eq-of_parts start x (ap (λ (c : Cell). c.r) (sym (some_same e))) (ap (λ (c : Cell). c.c) (sym (some_same e))))
+    go (x ∷ xs) e = or_left _ _ (cell_eq-of_parts start x (ap (λ (c : Cell). c.r) (sym (some_same _ _ e))) (ap (λ (c : Cell). c.c) (sym (some_same _ _ e))))
 
 pub flood_start : (R : Region) (start : Cell) (old new : Flood) → has R start ≡ true → HasFlags R old.reached.items → ((a : Cell) → is_reached R old a ≡ false)
     → old.waiting.items ≡ [] → Reaches R (Some start ∷ []) old new → IsFlood R start new
@@ -321,15 +318,6 @@ find-here p cells i d h e f =
     ap (λ (t : Bool). cond t (Some (get_or cells i d)) (find p (drop (i + 1) cells))) (sym e) ∙ sym (ap (find p) (drop_more cells i d h)) ∙ f
 
 -- none, or one before which there is none
-pub find-none : (p : Cell → Bool) (cells : List Cell) → find p cells ≡ None → (a : Cell) → In a cells → p a ≡ false
-find-none p [] e a i = absurd i
-find-none p (x ∷ xs) e a i = go (p x) refl e i (find-none p xs)
-  where
-    go : (t : Bool) → p x ≡ t → cond t (Some x) (find p xs) ≡ None → (a ≡ x) ⊎ In a xs → (find p xs ≡ None → (a : Cell) → In a xs → p a ≡ false) → p a ≡ false
-    go true k e i ih = cc e
-    go false k e (inl same) ih = ap p same ∙ k
-    go false k e (inr i) ih = ih e a i
-
 pub find-some : (p : Cell → Bool) (cells : List Cell) (a : Cell) → linked cell_lt cells ≡ true → find p cells ≡ Some a
     → In a cells × (p a ≡ true) × ((b : Cell) → In b cells → cell_lt b a ≡ true → p b ≡ false)
 find-some p [] a l e = cc e
@@ -342,7 +330,7 @@ find-some p (x ∷ xs) a l e = go (p x) refl e (λ f. find-some p xs a (linked-t
         → (find p xs ≡ Some a → In a xs × (p a ≡ true) × ((b : Cell) → In b xs → cell_lt b a ≡ true → p b ≡ false))
         → In a (x ∷ xs) × (p a ≡ true) × ((b : Cell) → In b (x ∷ xs) → cell_lt b a ≡ true → p b ≡ false)
     go true k e ih =
-        let same : x ≡ a = some_same e in
+        let same : x ≡ a = some_same _ _ e in
         (inl (sym same), ap p (sym same) ∙ k, λ b i lt. absurd (not_before same b i lt))
       where
         not_before : x ≡ a → (b : Cell) → (b ≡ x) ⊎ In b xs → cell_lt b a ≡ true → ⊥
@@ -365,7 +353,7 @@ module _ (R : Region) (kept : IsKept R) (flags : List Bool) (part : AreFlagsOfPa
   parted-none : find (λ a. not (flag_at R.columns flags a)) R.cells ≡ None → InOnePart R
   parted-none e =
       in_one_part R part.start inside
-      (λ a h. joined_back R part.start a inside (flag-joined a h (find-none (λ a. not (flag_at R.columns flags a)) R.cells e a (In-any a R.cells h))))
+      (λ a h. joined_back R part.start a inside (flag-joined a h (false_from_ne_true _ (find-none (λ a. not (flag_at R.columns flags a)) R.cells e a (In-any a R.cells h)))))
     where
       inside : has R part.start ≡ true
       inside = first-has R part.start part.is_start

@@ -1,33 +1,25 @@
 -- The flags of a rectangle, and what the cells of a grid are.
-use Rattle.std.proofs.Common.{◌≡◌, ◌≢◌, ℕ, zero, suc, ◌+◌, ◌*◌, ◌/◌, ◌<◌, ◌≤◌, ◌⊎◌, inl, inr, Bool, true, false, ◌||◌, List, [], ◌∷◌, map, length, take, refl, sym, ◌∙◌, ap, arith, get_or, replicate}
-use Rattle.std.specs.Prelude.{◌==◌, slice_set, filter, flat_map, All}
-use Rattle.std.specs.List.{list_any, range_with_len}
-use Rattle.std.proofs.lemmas.Bool.{false_from_ne_true}
-use Rattle.std.proofs.lemmas.Nat.{mul-add-lt, div-mul-add}
-use Rattle.std.proofs.lemmas.List.{get_or-set_same, get_or-set_other, take_more, length-set, length-append, length-replicate}
+use Rattle.std.proofs.Common.{◌≡◌, ◌≢◌, ℕ, zero, suc, ◌+◌, ◌*◌, ◌<◌, ◌≤◌, ◌⊎◌, inl, inr, Bool, true, false, ◌||◌, List, [], ◌∷◌, length, take, refl, sym, ◌∙◌, ap, arith, get_or, replicate}
+use Rattle.std.specs.Prelude.{◌==◌, slice_set, filter, All}
+use Rattle.std.specs.List.{list_any}
+use Rattle.std.proofs.lemmas.Bool.{false_from_ne_true, or_left, or_right}
+use Rattle.std.proofs.lemmas.Nat.{mul-add-lt}
+use Rattle.std.proofs.lemmas.List.{get_or-set_same, get_or-set_other, take_more, length-set, length-replicate}
 use Rattle.std.proofs.lemmas.List.Folds.{list_any-append}
 use Rattle.std.proofs.lemmas.List.Sums.{length-filter, count_by-le-length}
-use Rattle.std.proofs.lemmas.List.FromFn.{length-map-range_with_len}
 use Rattle.std.proofs.Math.Nat.{mul_comm, mul-le-mul}
 use Rattle.tl_definitions.specs.declared.Cell.{Cell}
-use Rattle.tl_definitions.specs.Lattice.{cell, cell_eq}
-use Rattle.tl_definitions.specs.Region.{Region, has, places, upto}
-use Rattle.tl_definitions.proofs.Regions.{same_test, has-within, cell_eq-parts, cell_eq-of_parts, nat_cases, or-left, or-right}
+use Rattle.tl_definitions.specs.Lattice.{cell_eq}
+use Rattle.tl_definitions.specs.Region.{Region, has, places}
+use Rattle.tl_definitions.proofs.Regions.{same_test, has-within, cell_eq-parts, cell_eq-of_parts, nat_cases, same_place, length-places}
 use Rattle.tl_definitions.specs.Accepted.{IsPlaced}
 use Rattle.tl_grid.specs.Grid.{flag_at, AreFlagsOf, IsKept}
 
--- two cells with one place in a row-major list are the same
-pub same_place : (a b : Cell) (w : ℕ) → a.c < w → b.c < w → a.r * w + a.c ≡ b.r * w + b.c → (a.r ≡ b.r) × (a.c ≡ b.c)
-same_place a b w h k e =
-    let rows : a.r ≡ b.r = sym (div-mul-add a.r w a.c h) ∙ ap (λ (n : ℕ). n / w) e ∙ div-mul-add b.r w b.c k in
-    let start : a.r * w ≡ b.r * w = ap (λ (n : ℕ). n * w) rows in
-    (rows, omega (arith, e, start))
-
-or_true : (b : Bool) → (b || true) ≡ true
+pub or_true : (b : Bool) → (b || true) ≡ true
 or_true true = refl
 or_true false = refl
 
-or_false : (b : Bool) → (b || false) ≡ b
+pub or_false : (b : Bool) → (b || false) ≡ b
 or_false true = refl
 or_false false = refl
 
@@ -79,14 +71,6 @@ flags_more rows columns cells flags i x d h e xr xc f =
 
 -- ---- the cells of a grid
 
-length-places : (rows columns s : ℕ) → length (flat_map (λ r. map (λ c. cell r c) (upto columns)) (range_with_len s rows)) ≡ rows * columns
-length-places zero columns s = omega arith
-length-places (suc rows) columns s =
-    let here : length (map (λ c. cell s c) (upto columns)) ≡ columns = length-map-range_with_len (λ c. cell s c) 0 columns in
-    let rest = length-places rows columns (s + 1) in
-    length-append (map (λ c. cell s c) (upto columns)) (flat_map (λ r. map (λ c. cell r c) (upto columns)) (range_with_len (s + 1) rows))
-    ∙ omega (arith, here, rest)
-
 -- there are few
 pub few_cells : (R : Region) → IsKept R → length R.cells ≤ 262144
 few_cells R k =
@@ -103,8 +87,8 @@ has-outside R a k out = false_from_ne_true _ (λ e. out (has-within R a k.placed
 -- each cell is within the rectangle
 pub any-self : (cells : List Cell) (k : ℕ) (d : Cell) → k < length cells → list_any (cell_eq (get_or cells k d)) cells ≡ true
 any-self [] k d h = absurd (omega (arith, h))
-any-self (c ∷ cs) zero d h = or-left _ _ (cell_eq-of_parts c c refl refl)
-any-self (c ∷ cs) (suc k) d h = or-right (cell_eq (get_or cs k d) c) _ (any-self cs k d (omega (arith, h)))
+any-self (c ∷ cs) zero d h = or_left _ _ (cell_eq-of_parts c c refl refl)
+any-self (c ∷ cs) (suc k) d h = or_right (cell_eq (get_or cs k d) c) _ (any-self cs k d (omega (arith, h)))
 
 pub cells_within : (R : Region) → IsPlaced R → All (λ a. (a.r < R.rows) × (a.c < R.columns)) R.cells
 cells_within R placed k d h = has-within R (get_or R.cells k d) placed (any-self R.cells k d h)

@@ -13,7 +13,8 @@ use Rattle.tl_definitions.specs.declared.Corner.{Corner}
 use Rattle.tl_definitions.specs.Lattice.{corner, corner_eq}
 use Rattle.tl_definitions.specs.Region.{Region, is_inner, inner_corners}
 use Rattle.tl_definitions.proofs.CornerRows.{corner_rows, corners_before, before-more, before-row, before-itself, length-corner_rows, length-before, corner_rows-at}
-use Rattle.tl_definitions.proofs.InnerNumbers.{IsAmongCells, corner_eq-same, corner_eq-refl, inner_corners-rows, any-inner_corners, inner-among, position-within, position-some, position-missing, position-other, position-here}
+use Rattle.tl_definitions.proofs.InnerNumbers.{IsAmongCells, inner_corners-rows, any-inner_corners, inner-among, position-within, position-some, position-missing, position-other, position-here}
+use Rattle.tl_definitions.proofs.Corners.{corner_eq-same, corner_eq-refl}
 use Rattle.tl_lattice.specs.Places.{padded}
 use Rattle.tl_grid.specs.declared.inner.Inner.{Inner}
 use Rattle.tl_grid.specs.Grid.{IsKept}
@@ -25,7 +26,7 @@ take-padded width n xs e = take_at xs (replicate (width - length xs) None) n (sy
 
 -- ---- the numbers of the places so far
 
-number-missing : (found : List Corner) (v : Corner) → list_any (corner_eq v) found ≡ false → number_in found v ≡ 4294967295
+pub number-missing : (found : List Corner) (v : Corner) → list_any (corner_eq v) found ≡ false → number_in found v ≡ 4294967295
 number-missing found v e = ap (λ (o : Option ℕ). unwrap_or o 4294967295) (position-missing (corner_eq v) found e)
 
 number-here : (found : List Corner) (v : Corner) → list_any (corner_eq v) found ≡ false → number_in (found ++ (v ∷ [])) v ≡ length found

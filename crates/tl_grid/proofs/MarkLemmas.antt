@@ -1,8 +1,8 @@
 -- Marks of corners: where they stand, and one more.
-use Rattle.std.proofs.Common.{◌≡◌, ℕ, zero, suc, ◌+◌, ◌*◌, ◌/◌, ◌<◌, ◌⊎◌, inl, inr, Bool, true, false, ◌||◌, not, List, [], ◌∷◌, ◌++◌, length, cond, refl, sym, ◌∙◌, ap, arith, get_or, replicate}
+use Rattle.std.proofs.Common.{◌≡◌, ℕ, zero, suc, ◌+◌, ◌*◌, ◌<◌, ◌⊎◌, inl, inr, Bool, true, false, ◌||◌, not, List, [], ◌∷◌, ◌++◌, length, cond, refl, sym, ◌∙◌, ap, arith, get_or, replicate}
 use Rattle.std.specs.Prelude.{slice_set, count_by, sum_by}
 use Rattle.std.specs.List.{list_any}
-use Rattle.std.proofs.lemmas.Nat.{mul-add-lt, div-mul-add}
+use Rattle.std.proofs.lemmas.Nat.{mul-add-lt}
 use Rattle.std.proofs.lemmas.List.{get_or-set_same, get_or-set_other, length-set, length-replicate}
 use Rattle.std.proofs.lemmas.List.Folds.{list_any-append}
 use Rattle.std.proofs.lemmas.List.Sums.{sum_by-set}
@@ -11,10 +11,10 @@ use Rattle.tl_definitions.specs.declared.Corner.{Corner}
 use Rattle.tl_definitions.specs.Lattice.{corner_eq}
 use Rattle.tl_definitions.specs.Region.{Region}
 use Rattle.tl_definitions.proofs.Regions.{same_test, nat_cases}
-use Rattle.tl_definitions.proofs.CornerRings.{corner_eq-same, corner_eq-refl}
-use Rattle.tl_definitions.proofs.Darts.{corner-same}
+use Rattle.tl_definitions.proofs.Corners.{corner_eq-same, corner_eq-refl, same_place}
 use Rattle.tl_grid.specs.declared.corner_marks.CornerMarks.{CornerMarks}
 use Rattle.tl_grid.specs.CornerMarks.{is_marked, FitMarks, AreMarked}
+use Rattle.tl_grid.proofs.GridLemmas.{or_false, or_true}
 
 -- a corner place has a flag
 pub place-within : (R : Region) (m : CornerMarks) (v : Corner) → FitMarks R m → v.r < R.rows + 1 → v.x < R.columns + 2
@@ -23,21 +23,6 @@ place-within R m v a h k =
     let place : v.r * (R.columns + 2) + v.x < (R.columns + 2) * (R.rows + 1) = mul-add-lt v.r (R.columns + 2) v.x (R.rows + 1) h k in
     let start : v.r * m.width ≡ v.r * (R.columns + 2) = ap (λ (n : ℕ). v.r * n) a.width in
     omega (arith, place, start, a.size, mul_comm (R.columns + 2) (R.rows + 1))
-
--- two corners with one place are the same
-same_place : (u v : Corner) (w : ℕ) → u.x < w → v.x < w → u.r * w + u.x ≡ v.r * w + v.x → u ≡ v
-same_place u v w h k e =
-    let rows : u.r ≡ v.r = sym (div-mul-add u.r w u.x h) ∙ ap (λ (n : ℕ). n / w) e ∙ div-mul-add v.r w v.x k in
-    let start : u.r * w ≡ v.r * w = ap (λ (n : ℕ). n * w) rows in
-    corner-same u v rows (omega (arith, e, start))
-
-or_false : (b : Bool) → (b || false) ≡ b
-or_false true = refl
-or_false false = refl
-
-or_true : (b : Bool) → (b || true) ≡ true
-or_true true = refl
-or_true false = refl
 
 list_any-push : (p : Corner → Bool) (vs : List Corner) (v : Corner) → list_any p (vs ++ v ∷ []) ≡ (list_any p vs || p v)
 list_any-push p vs v = list_any-append p vs (v ∷ []) ∙ ap (λ (b : Bool). list_any p vs || b) (or_false (p v))

@@ -1,5 +1,5 @@
 -- The walk along the boundary, by the corners that are marked.
-use Rattle.std.proofs.Common.{◌≡◌, ◌+◌, ◌*◌, ◌<◌, Bool, true, false, ◌&&◌, not, List, [], ◌∷◌, ◌++◌, cond, Option, Some, None, refl, sym, ◌∙◌, ap, subst}
+use Rattle.std.proofs.Common.{◌≡◌, ◌+◌, ◌*◌, ◌<◌, Bool, true, false, ◌&&◌, not, List, [], ◌∷◌, ◌++◌, Option, Some, None, refl, sym, ◌∙◌, ap, subst}
 use Rattle.std.specs.Prelude.{find, slice_set, is_some}
 use Rattle.std.specs.List.{list_any}
 use Rattle.std.proofs.lemmas.Bool.{and_parts, and_from}
@@ -8,13 +8,14 @@ use Rattle.tl_definitions.specs.Lattice.{corner_eq, is_corner, Side}
 use Rattle.tl_definitions.specs.Region.{Region, corner_places, boundary}
 use Rattle.tl_definitions.specs.Accepted.{IsPlaced, is_pinch, circuit_corners, IsCircuit}
 use Rattle.tl_definitions.specs.Boundary.{side_from, is_boundary_corner, IsClosedWalk}
-use Rattle.tl_definitions.proofs.Sublists.{In}
+use Rattle.tl_definitions.proofs.Sublists.{In, In-any_of}
 use Rattle.tl_definitions.proofs.CornerPlaces.{In-corner_places}
-use Rattle.tl_definitions.proofs.CornerRings.{In-any_of, corner_eq-same, corner_eq-refl}
 use Rattle.tl_definitions.proofs.BoundarySides.{boundary-corners}
 use Rattle.tl_definitions.proofs.NextCorner.{find-In, find-none, none-find}
 use Rattle.tl_definitions.proofs.Walks.{corner-In, In-corner, map-push, IsWalk, walk-start, walk-more, walk-closes}
 use Rattle.tl_definitions.proofs.Circuits.{boundary-within, boundary-places, no_pinch-sides, from-boundary, boundary-from, IsFirstBoundaryCorner, PassesAll, closed-circuit, circuit-passes, no_corner-circuit}
+use Rattle.tl_definitions.proofs.Corners.{corner_eq-same, corner_eq-refl}
+use Rattle.tl_definitions.proofs.Drawings.{find-same}
 use Rattle.tl_grid.specs.declared.corner_marks.CornerMarks.{CornerMarks}
 use Rattle.tl_grid.specs.CornerMarks.{is_marked, AreMarked}
 use Rattle.tl_grid.proofs.MarkLemmas.{marks-more}
@@ -93,16 +94,11 @@ abbrev pub is_open : Region → CornerMarks → Corner → Bool
 is_open R m v = is_boundary_corner R v && not (is_marked m v)
 
 -- where no corner is marked, the first boundary corner without a mark is the first of all
-find-same : (p q : Corner → Bool) (vs : List Corner) → ((v : Corner) → p v ≡ q v) → find p vs ≡ find q vs
-find-same p q [] same = refl
-find-same p q (v ∷ vs) same =
-    ap (λ (b : Bool). cond b (Some v) (find p vs)) (same v) ∙ ap (λ (o : Option Corner). cond (q v) (Some v) o) (find-same p q vs same)
-
 pub first-open : (R : Region) (m : CornerMarks) (o : Option Corner) → ((v : Corner) → is_marked m v ≡ false) → o ≡ find (is_open R m) (corner_places R)
     → find (is_boundary_corner R) (corner_places R) ≡ o
 first-open R m o none e =
     find-same (is_boundary_corner R) (is_open R m) (corner_places R)
-    (λ v. sym (ap (λ (b : Bool). is_boundary_corner R v && not b) (none v) ∙ and_true (is_boundary_corner R v))) ∙ sym e
+    (λ v i. sym (ap (λ (b : Bool). is_boundary_corner R v && not b) (none v) ∙ and_true (is_boundary_corner R v))) ∙ sym e
   where
     and_true : (b : Bool) → (b && true) ≡ b
     and_true true = refl

@@ -1,24 +1,19 @@
 -- What meets the definitions, and what near them doesn't: the two tilings of the square of four cells.
-use Rattle.std.proofs.Common.{◌≡◌, ℕ, true, false, List, [], ◌∷◌, refl, sym, ◌∙◌, ap, subst, arith, codes, Result, Ok, ℤ, pos, negsuc, ◌+ℤ◌}
+use Rattle.std.proofs.Common.{◌≡◌, ℕ, true, false, List, [], ◌∷◌, refl, sym, ◌∙◌, ap, arith, codes, Result, Ok, ℤ, pos, negsuc}
 use Rattle.std.specs.Prelude.{slice_index}
 use Rattle.tl_definitions.specs.declared.Kind.TheVariants.{Square}
-use Rattle.tl_definitions.specs.declared.Cell.{Cell}
-use Rattle.tl_definitions.specs.declared.Corner.{Corner}
 use Rattle.tl_definitions.specs.declared.Tile.{Tile}
 use Rattle.tl_definitions.specs.Lattice.{cell, corner}
 use Rattle.tl_definitions.specs.Region.{Region}
 use Rattle.tl_definitions.specs.RegionText.{region_of, IsRegionText, RegionRefusal}
 use Rattle.tl_definitions.specs.Accepted.{Accepted, IsCircuit}
 use Rattle.tl_definitions.specs.Drawing.{drawing}
-use Rattle.tl_definitions.specs.Heights.{height, climb, AreHeights, AreHeightsOf, AreLawful}
+use Rattle.tl_definitions.specs.Heights.{height, AreHeights, AreLawful}
 use Rattle.tl_definitions.proofs.Cases.{drawn, walk_of}
 use Rattle.tl_definitions.proofs.Decide.{one_part}
-use Rattle.tl_definitions.proofs.Sublists.{In, Each, Each-at}
-use Rattle.tl_closing.specs.Closing.{steps_round}
-use Rattle.tl_closing.proofs.Edges.{Step, edges, In-edges, is_step-parts}
-use Rattle.tl_closing.proofs.Numbers.{numbers_of, numbers_of-heights}
 use Rattle.tl_closing.proofs.Crossed.{same-heights}
-use Rattle.tl_closing.proofs.Heights.{Start, start-of, heights-lawful}
+use Rattle.tl_closing.proofs.Heights.{heights-lawful}
+use Rattle.tl_height.proofs.HeightsBy.{heights-by}
 use Rattle.tl_height.specs.declared.standing.Standing.TheVariants.{High, Low, No}
 use Rattle.tl_height.specs.HeightFunction.{falls_between, put_at}
 use Rattle.tl_height.specs.Standing.{standing}
@@ -51,31 +46,14 @@ accepted_two = record {
   euler = refl;
 }
 
--- numbers that rise by the climbs along each edge, and stand where a corner is, are the heights of the tiling
-heights-by : (A : List Tile) (numbers : List ℤ) → numbers_of two_two (height two_two numbers) ≡ numbers → height two_two numbers (corner 0 0) ≡ pos 0
-    → Each (λ e. height two_two numbers e.1 ≡ height two_two numbers e.0 +ℤ climb two_two A e.0 e.1) (edges two_two) → AreHeights two_two A numbers
-heights-by A numbers listed zero each = record {
-  heights = subst (AreHeightsOf two_two) listed (numbers_of-heights two_two (height two_two numbers));
-  start = λ walk v c e. ap (height two_two numbers) (start.only walk v c e ∙ sym (start.only (walk_of two_two) (corner 0 0) circuit_two refl)) ∙ zero;
-  along = λ u v e. go u v (is_step-parts two_two u v e);
-}
-  where
-    start : Start two_two
-    start = start-of two_two accepted_two
-
-    go : (u v : Corner) → (a : Cell) × In a two_two.cells × In (u, v) (steps_round two_two.kind a) → height two_two numbers v ≡ height two_two numbers u +ℤ climb two_two A u v
-    go u v (a, i, j) =
-        Each-at (λ (e : Step). height two_two numbers e.1 ≡ height two_two numbers e.0 +ℤ climb two_two A e.0 e.1) (u, v) (edges two_two) each
-        (In-edges two_two refl a (u, v) i j)
-
 level_heights : AreHeights two_two level (with_middle (pos 2))
 level_heights =
-    heights-by level (with_middle (pos 2)) refl refl
+    heights-by two_two accepted_two (walk_of two_two) (corner 0 0) circuit_two refl level (with_middle (pos 2)) refl refl
     (refl, (refl, (refl, (refl, (refl, (refl, (refl, (refl, (refl, (refl, (refl, (refl, tt))))))))))))
 
 upright_heights : AreHeights two_two upright (with_middle (negsuc 1))
 upright_heights =
-    heights-by upright (with_middle (negsuc 1)) refl refl
+    heights-by two_two accepted_two (walk_of two_two) (corner 0 0) circuit_two refl upright (with_middle (negsuc 1)) refl refl
     (refl, (refl, (refl, (refl, (refl, (refl, (refl, (refl, (refl, (refl, (refl, (refl, tt))))))))))))
 
 pub level_lawful : AreLawful two_two (with_middle (pos 2))

@@ -19,9 +19,9 @@ use Rattle.tl_definitions.specs.Darts.{cell_width}
 use Rattle.tl_definitions.specs.Tiling.{is_tiling, partner}
 use Rattle.tl_definitions.specs.Heights.{rise, height, AreHeights}
 use Rattle.tl_definitions.proofs.Regions.{same_test}
-use Rattle.tl_definitions.proofs.CornerRings.{corner_eq-same}
 use Rattle.tl_definitions.proofs.NextCorner.{find-In, find-none_any}
 use Rattle.tl_definitions.proofs.InnerNumbers.{position-some, position-missing}
+use Rattle.tl_definitions.proofs.Corners.{corner_eq-same}
 use Rattle.tl_closing.proofs.Filling.{leads_right, upper_cell, lower_cell, left_corner, climb_between, rise_from_left, FromLeft, fill-inner, StandsAt, fill-place}
 use Rattle.tl_closing.proofs.Heights.{has-heights}
 

@@ -1,5 +1,5 @@
 -- Numbers that rise by the climbs of a tiling are its heights.
-use Rattle.std.proofs.Common.{◌≡◌, List, Some, refl, sym, ◌∙◌, ap, subst, ℤ, pos, ◌+ℤ◌}
+use Rattle.std.proofs.Common.{◌≡◌, List, Some, sym, ◌∙◌, ap, subst, ℤ, pos, ◌+ℤ◌}
 use Rattle.std.specs.Prelude.{slice_get}
 use Rattle.tl_definitions.specs.declared.Cell.{Cell}
 use Rattle.tl_definitions.specs.declared.Corner.{Corner}

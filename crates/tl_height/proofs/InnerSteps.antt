@@ -10,11 +10,12 @@ use Rattle.tl_definitions.specs.declared.Corner.{Corner}
 use Rattle.tl_definitions.specs.Lattice.{corner, is_corner, is_dark, corners, steps_out}
 use Rattle.tl_definitions.specs.Region.{Region, present, is_corner_of, is_inner}
 use Rattle.tl_definitions.proofs.Sublists.{In}
+use Rattle.tl_definitions.proofs.Corners.{corner-same}
 use Rattle.tl_lattice.specs.Places.{padded}
 use Rattle.tl_grid.specs.Grid.{IsKept}
 use Rattle.tl_closing.specs.Closing.{steps_round}
 use Rattle.tl_closing.specs.Standing.{steps_in}
-use Rattle.tl_closing.proofs.Steps.{corner_same, IsMove, step-move}
+use Rattle.tl_closing.proofs.Steps.{IsMove, step-move}
 use Rattle.tl_closing.proofs.Sides.{dark-from, light-from, left_step, other_steps, steps-table, corners-table, corner_table}
 use Rattle.tl_closing.proofs.Edges.{Step, corner_of-from, round-corners}
 use Rattle.tl_closing.proofs.Numbers.{corner-within}
@@ -31,7 +32,7 @@ round-by k cells a t e i colour j =
     (a, i, subst (λ (es : List Step). In e es) (sym (steps-table k a)) (subst (λ (t : Bool). In e (left_step k t a.r a.c ∷ other_steps k t a.r a.c)) (sym colour) j))
 
 step_is : (u v u' v' : Corner) → u.r ≡ u'.r → u.x ≡ u'.x → v.r ≡ v'.r → v.x ≡ v'.x → ◌≡◌ {A = Step} (u, v) (u', v')
-step_is u v u' v' p q s t = λ i. (corner_same u u' p q i, corner_same v v' s t i)
+step_is u v u' v' p q s t = λ i. (corner-same u u' p q i, corner-same v v' s t i)
 
 out-square : (cells : List Cell) (v w : Corner) → HasRing Square cells v → IsMove Square v w → IsRound Square cells (v, w)
 out-square cells v w ((a, i, p, q), ne, (b, j, s, t), sw) (inl (even, column, inl up)) =
@@ -137,14 +138,14 @@ inner-inside R v kept inner = go (first R.kind (and_parts _ _ inner).0 (inner-ri
   where
     -- the first cell of its ring
     first : (k : Kind) → is_corner k v ≡ true → HasRing k R.cells v → (a : Cell) × In a R.cells × In v (corners k a) × (a.r + 1 ≡ v.r) × (a.c + left_reach k ≡ v.x)
-    first Square e ((a, i, row, column), p, q, r) = (a, i, inr (inr (inr (inl (corner_same v _ (sym row) (sym column))))), row, column)
+    first Square e ((a, i, row, column), p, q, r) = (a, i, inr (inr (inr (inl (corner-same v _ (sym row) (sym column))))), row, column)
     first Triangle e ((a, i, row, column), p, q, r, s, t) = (a, i, among (eqb-true _ _ e), row, column)
       where
         among : (v.r + v.x) % 2 ≡ 1 → In v (corners Triangle a)
         among odd =
             subst (λ (ws : List Corner). In v ws) (sym (corners-table Triangle a))
             (subst (λ (d : Bool). In v (corner_table Triangle d a.r a.c)) (sym (dark-from a (omega (arith, odd, row, column))))
-            (inr (inr (inl (corner_same v _ (sym row) (sym column))))))
+            (inr (inr (inl (corner-same v _ (sym row) (sym column))))))
 
     go : (a : Cell) × In a R.cells × In v (corners R.kind a) × (a.r + 1 ≡ v.r) × (a.c + left_reach R.kind ≡ v.x) → IsInside R v
     go (a, i, j, row, column) =

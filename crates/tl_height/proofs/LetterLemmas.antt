@@ -1,13 +1,13 @@
 -- The letter of a cell names the side across which the heights fall.
-use Rattle.std.proofs.Common.{◌≡◌, ℕ, ◌+◌, ◌⊎◌, inl, inr, Bool, true, false, not, List, [], ◌∷◌, map, cond, Option, Some, None, refl, sym, ◌∙◌, ap, subst, arith, ℤ}
-use Rattle.std.specs.Prelude.{find, option_map, IsTrue}
+use Rattle.std.proofs.Common.{◌≡◌, ℕ, ◌+◌, ◌⊎◌, inl, inr, Bool, true, false, not, List, [], ◌∷◌, map, cond, Option, Some, refl, sym, ◌∙◌, ap, subst, arith, ℤ}
+use Rattle.std.specs.Prelude.{option_map, IsTrue}
 use Rattle.std.proofs.lemmas.Bool.{false_from_ne_true}
 use Rattle.tl_definitions.specs.declared.Kind.{Kind}
 use Rattle.tl_definitions.specs.declared.Kind.TheVariants.{Square, Triangle}
 use Rattle.tl_definitions.specs.declared.Cell.{Cell}
 use Rattle.tl_definitions.specs.declared.Corner.{Corner}
 use Rattle.tl_definitions.specs.declared.Tile.{Tile}
-use Rattle.tl_definitions.specs.Lattice.{corner, cell_eq, left, right, above, below, is_dark, corners, side, sides}
+use Rattle.tl_definitions.specs.Lattice.{corner, cell_eq, is_dark, corners, side, sides}
 use Rattle.tl_definitions.specs.Region.{Region, has, is_corner_of}
 use Rattle.tl_definitions.specs.Tiling.{covers, is_tiling, other_cell, partner}
 use Rattle.tl_definitions.specs.Drawing.{letter}
@@ -16,13 +16,15 @@ use Rattle.tl_definitions.proofs.Regions.{cell_eq-same}
 use Rattle.tl_definitions.proofs.Sublists.{In, In-map, cell_eq-refl}
 use Rattle.tl_definitions.proofs.Ordered.{Only, find-only}
 use Rattle.tl_definitions.proofs.Drawings.{letter-named}
+use Rattle.tl_definitions.proofs.Tilings.{TilingParts, tiling-parts}
+use Rattle.tl_definitions.proofs.NextCorner.{none-find}
 use Rattle.tl_closing.specs.Closing.{step_along, steps_round}
-use Rattle.tl_closing.proofs.Steps.{less-some}
 use Rattle.tl_closing.proofs.Sides.{directed, SameStep, same_step}
 use Rattle.tl_closing.proofs.Centres.{IsCentre, round-centre, cell-one, cell-two}
 use Rattle.tl_closing.proofs.Edges.{Step, has-In, In-has, round-step, is_step-from, corner_of-from}
-use Rattle.tl_closing.proofs.Crossed.{TilingParts, tiling-parts, is_crossed, crossed-parts, IsAcross, IsCrossing, one-crossed, covers-cases, covers-from}
-use Rattle.tl_closing.proofs.Standing.{up_sides, down_sides, among-up, among-down}
+use Rattle.tl_closing.proofs.Crossed.{is_crossed, crossed-parts, IsAcross, IsCrossing, one-crossed, covers-cases, covers-from}
+use Rattle.tl_closing.proofs.Ring.{up_sides, down_sides, among-up, among-down, over-right, over-bottom, over-left, over-top}
+use Rattle.tl_closing.proofs.Near.{right-is, left-is, above-is, below-is}
 use Rattle.tl_height.specs.declared.sides.Ends.{Ends}
 use Rattle.tl_height.specs.HeightFunction.{falls_between}
 use Rattle.tl_height.specs.Letters.{ends_of}
@@ -75,36 +77,6 @@ across R A tiling a i = start (one-crossed R A tiling a i)
     start : (e : Step) × IsCrossing R A a e → Across R A a
     start (e, o) = with_step e o (crossed-parts R A e (round-step R.kind a e o.inside) o.crossed)
 
--- ---- the four places of the partner
-
-right-is : (a b : Cell) → b.r ≡ a.r → b.c ≡ a.c + 1 → right a ≡ Some b
-right-is a b p q = λ i. Some (record { r = sym p i; c = sym q i })
-
-below-is : (a b : Cell) → b.r ≡ a.r + 1 → b.c ≡ a.c → below a ≡ Some b
-below-is a b p q = λ i. Some (record { r = sym p i; c = sym q i })
-
-left-is : (a b : Cell) → b.r ≡ a.r → b.c + 1 ≡ a.c → left a ≡ Some b
-left-is a b p q = rw (less-some a.c 1 b.c (sym q)) (λ i. Some (record { r = sym p i; c = b.c }))
-
-above-is : (a b : Cell) → b.r + 1 ≡ a.r → b.c ≡ a.c → above a ≡ Some b
-above-is a b p q = rw (less-some a.r 1 b.r (sym p)) (λ i. Some (record { r = b.r; c = sym q i }))
-
-over-right : (t : Bool) (r c r' c' : ℕ) → IsCentre Square (not t) r' c' (directed t (corner (r + 1) (c + 1)) (corner r (c + 1))) → (r' ≡ r) × (c' ≡ c + 1)
-over-right true r c r' c' p = (omega (arith, p), omega (arith, p))
-over-right false r c r' c' p = (omega (arith, p), omega (arith, p))
-
-over-lower : (t : Bool) (r c r' c' : ℕ) → IsCentre Square (not t) r' c' (directed t (corner (r + 1) c) (corner (r + 1) (c + 1))) → (r' ≡ r + 1) × (c' ≡ c)
-over-lower true r c r' c' p = (omega (arith, p), omega (arith, p))
-over-lower false r c r' c' p = (omega (arith, p), omega (arith, p))
-
-over-left : (t : Bool) (r c r' c' : ℕ) → IsCentre Square (not t) r' c' (directed t (corner r c) (corner (r + 1) c)) → (r' ≡ r) × (c' + 1 ≡ c)
-over-left true r c r' c' p = (omega (arith, p), omega (arith, p))
-over-left false r c r' c' p = (omega (arith, p), omega (arith, p))
-
-over-upper : (t : Bool) (r c r' c' : ℕ) → IsCentre Square (not t) r' c' (directed t (corner r (c + 1)) (corner r c)) → (r' + 1 ≡ r) × (c' ≡ c)
-over-upper true r c r' c' p = (omega (arith, p), omega (arith, p))
-over-upper false r c r' c' p = (omega (arith, p), omega (arith, p))
-
 -- ---- the letter by three tests
 
 abbrev pub tested : Bool → Bool → Bool → ℕ
@@ -132,24 +104,24 @@ module _ (falls : Corner → Corner → Bool) (none : (u : Corner) → falls u u
       let p = off _ _ (inr (inr (inl refl))) (λ q. omega (arith, same_ends (is_dark a) _ _ _ _ (sym q ∙ at))) in
       let l = on _ _ (inl refl) at in
       let place = over-left (is_dark a) a.r a.c b.r b.c (subst (IsCentre Square (not (is_dark a)) b.r b.c) at centre) in
-      (λ i. tested (p.1 i) (l.0 i) (falls (corner (a.r + 1) a.c) (corner (a.r + 1) (a.c + 1)))) ∙ sym (letter-named 60 a b (left-is a b place.0 place.1))
+      (λ i. tested (p.1 i) (l.0 i) (falls (corner (a.r + 1) a.c) (corner (a.r + 1) (a.c + 1)))) ∙ sym (letter-named 60 a b (left-is a b (sym place.0) (sym place.1)))
   square-letter on off centre (inr (inl at)) =
       let p = off _ _ (inr (inr (inl refl))) (λ q. omega (arith, same_ends (is_dark a) _ _ _ _ (sym q ∙ at))) in
       let l = off _ _ (inl refl) (λ q. omega (arith, same_ends (is_dark a) _ _ _ _ (sym q ∙ at))) in
       let d = on _ _ (inr (inl refl)) at in
-      let place = over-lower (is_dark a) a.r a.c b.r b.c (subst (IsCentre Square (not (is_dark a)) b.r b.c) at centre) in
-      (λ i. tested (p.1 i) (l.0 i) (d.0 i)) ∙ sym (letter-named 118 a b (below-is a b place.0 place.1))
+      let place = over-bottom (is_dark a) a.r a.c b.r b.c (subst (IsCentre Square (not (is_dark a)) b.r b.c) at centre) in
+      (λ i. tested (p.1 i) (l.0 i) (d.0 i)) ∙ sym (letter-named 118 a b (below-is a b (sym place.0) (sym place.1)))
   square-letter on off centre (inr (inr (inl at))) =
       let p = on _ _ (inr (inr (inl refl))) at in
       let place = over-right (is_dark a) a.r a.c b.r b.c (subst (IsCentre Square (not (is_dark a)) b.r b.c) at centre) in
       (λ i. tested (p.1 i) (falls (corner a.r a.c) (corner (a.r + 1) a.c)) (falls (corner (a.r + 1) a.c) (corner (a.r + 1) (a.c + 1))))
-      ∙ sym (letter-named 62 a b (right-is a b place.0 place.1))
+      ∙ sym (letter-named 62 a b (right-is a b (sym place.0) (sym place.1)))
   square-letter on off centre (inr (inr (inr (inl at)))) =
       let p = off _ _ (inr (inr (inl refl))) (λ q. omega (arith, same_ends (is_dark a) _ _ _ _ (sym q ∙ at))) in
       let l = off _ _ (inl refl) (λ q. omega (arith, same_ends (is_dark a) _ _ _ _ (sym q ∙ at))) in
       let d = off _ _ (inr (inl refl)) (λ q. omega (arith, same_ends (is_dark a) _ _ _ _ (sym q ∙ at))) in
-      let place = over-upper (is_dark a) a.r a.c b.r b.c (subst (IsCentre Square (not (is_dark a)) b.r b.c) at centre) in
-      (λ i. tested (p.1 i) (l.0 i) (d.0 i)) ∙ sym (letter-named 94 a b (above-is a b place.0 place.1))
+      let place = over-top (is_dark a) a.r a.c b.r b.c (subst (IsCentre Square (not (is_dark a)) b.r b.c) at centre) in
+      (λ i. tested (p.1 i) (l.0 i) (d.0 i)) ∙ sym (letter-named 94 a b (above-is a b (sym place.0) (sym place.1)))
   square-letter on off centre (inr (inr (inr (inr never)))) = absurd never
 
   -- the centre of the cell beyond the step, by the colour of this one
@@ -324,17 +296,13 @@ ends-of_region R a e =
 
 -- ---- a place that is no cell of the region
 
-find-none : {A : Type 0} (p : A → Bool) (xs : List A) → ((x : A) → In x xs → p x ≡ false) → find p xs ≡ None
-find-none p [] f = refl
-find-none p (x ∷ xs) f = rw (f x (inl refl)) (find-none p xs (λ y i. f y (inr i)))
-
 pub letter-outside : (R : Region) (A : List Tile) (a : Cell) → IsTrue (is_tiling R A) → has R a ≡ false → 46 ≡ letter a (partner A a)
 letter-outside R A a tiling e =
-    sym (ap (λ (o : Option Tile). letter a (option_map (λ t. other_cell t a) o)) (find-none (λ t. covers t a) A missed))
+    sym (ap (λ (o : Option Tile). letter a (option_map (λ t. other_cell t a) o)) (none-find (λ t. covers t a) A missed))
   where
     inside : (t : Tile) → In t A → (a ≡ t.first) ⊎ (a ≡ t.second) → has R a ≡ true
     inside t i (inl same) = subst (λ (x : Cell). has R x ≡ true) (sym same) (In-has R t.first ((tiling-parts R A tiling).tiles t i).first)
     inside t i (inr same) = subst (λ (x : Cell). has R x ≡ true) (sym same) (In-has R t.second ((tiling-parts R A tiling).tiles t i).second)
 
-    missed : (t : Tile) → In t A → covers t a ≡ false
-    missed t i = false_from_ne_true (covers t a) (λ c. cc (e, inside t i (covers-cases t a c)))
+    missed : (t : Tile) → In t A → covers t a ≡ true → ⊥
+    missed t i c = cc (e, inside t i (covers-cases t a c))

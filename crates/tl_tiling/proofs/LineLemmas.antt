@@ -11,8 +11,7 @@ use Rattle.tl_definitions.specs.Accepted.{IsPlaced}
 use Rattle.tl_definitions.specs.RegionText.{is_blank}
 use Rattle.tl_definitions.specs.Drawing.{is_letter}
 use Rattle.tl_definitions.specs.Marks.{row_part}
-use Rattle.tl_definitions.proofs.Regions.{nat_cases}
-use Rattle.tl_definitions.proofs.Partners.{has-within, same_place}
+use Rattle.tl_definitions.proofs.Regions.{nat_cases, has-within, same_place}
 use Rattle.tl_tiling.specs.Letters.{letter_at, is_allowed_in, ReadsLine}
 
 abbrev is_bad : Region → List ℕ → Cell → Bool

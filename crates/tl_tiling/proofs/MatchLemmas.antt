@@ -11,14 +11,11 @@ use Rattle.std.proofs.Math.Seq.{drop-cons}
 use Rattle.tl_definitions.specs.declared.Cell.{Cell}
 use Rattle.tl_definitions.specs.Lattice.{cell_eq}
 use Rattle.tl_definitions.specs.Region.{Region, has}
-use Rattle.tl_definitions.proofs.Partners.{has-within}
 use Rattle.tl_definitions.proofs.Sublists.{cell_eq-refl}
+use Rattle.tl_definitions.proofs.Regions.{has-within}
 use Rattle.tl_lattice.specs.Places.{padded}
 use Rattle.tl_grid.specs.Grid.{IsKept}
-
-or_false : (b : Bool) → (b || false) ≡ b
-or_false true = refl
-or_false false = refl
+use Rattle.tl_grid.proofs.GridLemmas.{or_false}
 
 -- the places past the end of a table pass no test that fails where there is none
 pub any-padded : {A : Type 0} (p : Option A → Bool) (n : ℕ) (xs : List (Option A)) → p None ≡ false → list_any p (padded n xs) ≡ list_any p xs

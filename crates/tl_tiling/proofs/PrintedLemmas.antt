@@ -2,7 +2,7 @@
 use Rattle.std.proofs.Common.{◌≡◌, ◌≢◌, ℕ, zero, suc, ◌+◌, ◌<◌, ◌≤◌, inl, Bool, true, false, not, ◌&&◌, ◌||◌, List, [], ◌∷◌, ◌++◌, map, length, cond, refl, sym, ◌∙◌, ap, subst, arith, Option, Some, None, append_assoc}
 use Rattle.std.specs.Prelude.{flat_map, option_and_then, slice_get, slice_index, slice_index_or, nat_lt, ◌==◌, IfSome}
 use Rattle.std.specs.List.{list_all, range_with_len}
-use Rattle.std.proofs.lemmas.Bool.{and_parts, and_from, ltb-true, ltb-false, ne_eqb, eq-eqb}
+use Rattle.std.proofs.lemmas.Bool.{and_parts, and_from, ltb-true, ltb-false, ne_eqb, eq-eqb, not-true}
 use Rattle.std.proofs.lemmas.List.{get_or_past}
 use Rattle.std.proofs.lemmas.List.FromFn.{get_or-map-range_with_len, length-map-range_with_len}
 use Rattle.std.proofs.lemmas.Option.{slice_get_past, slice_get-get_or}
@@ -17,12 +17,13 @@ use Rattle.tl_definitions.specs.RegionText.{byte_at, is_blank}
 use Rattle.tl_definitions.specs.Tiling.{is_tiling, partner}
 use Rattle.tl_definitions.specs.Drawing.{named, named_at, Draws, letter, drawing, DrawingRefusal, drawing_refusal}
 use Rattle.tl_definitions.proofs.Lines.{without_end-last, without_end-other, open-line, open-empty_line, further-line}
-use Rattle.tl_definitions.proofs.Drawings.{is_cell-same}
 use Rattle.tl_definitions.proofs.Sublists.{In}
-use Rattle.tl_definitions.proofs.Partners.{has-within, In-has}
+use Rattle.tl_definitions.proofs.Partners.{In-has}
+use Rattle.tl_definitions.proofs.Regions.{is_cell-some, has-within}
+use Rattle.tl_definitions.proofs.Tilings.{TilingParts, tiling-parts}
 use Rattle.tl_grid.specs.Grid.{IsKept}
 use Rattle.tl_tiling.specs.Printed.{BeginsNoLine}
-use Rattle.tl_tiling.proofs.TilingLemmas.{TilingParts, tiling-parts, tiling-matched, partner-outside, draws-same, draws-not_refused}
+use Rattle.tl_tiling.proofs.TilingLemmas.{tiling-matched, partner-outside, draws-same, draws-not_refused}
 
 -- ---- lines without line ends
 
@@ -30,14 +31,10 @@ use Rattle.tl_tiling.proofs.TilingLemmas.{TilingParts, tiling-parts, tiling-matc
 abbrev plain : ℕ → Bool
 plain b = not (b == 10) && not (b == 13)
 
-not_true : (t : Bool) → not t ≡ true → t ≡ false
-not_true true e = cc e
-not_true false e = refl
-
 plain-parts : (b : ℕ) → plain b ≡ true → ((b == 10) ≡ false) × ((b == 13) ≡ false)
 plain-parts b e =
     let p : (not (b == 10) ≡ true) × (not (b == 13) ≡ true) = and_parts _ _ e in
-    (not_true (b == 10) p.0, not_true (b == 13) p.1)
+    (not-true (b == 10) p.0, not-true (b == 13) p.1)
 
 -- a plain line with its line feed is one piece
 pieces-line : (l more : List ℕ) → list_all plain l ≡ true → pieces (l ++ 10 ∷ more) ≡ (l ++ 10 ∷ []) ∷ pieces more
@@ -178,10 +175,10 @@ letter-back : (k : Kind) (a b : Cell) → are_neighbours k a b ≡ true → name
 letter-back k a b h = go (is_cell b (right a)) (is_cell b (left a)) (is_cell b (below a)) refl refl refl
   where
     go : (s t u : Bool) → is_cell b (right a) ≡ s → is_cell b (left a) ≡ t → is_cell b (below a) ≡ u → named (cond s 62 (cond t 60 (cond u 118 94))) a ≡ Some b
-    go true t u e f g = is_cell-same b (right a) e
-    go false true u e f g = is_cell-same b (left a) f
-    go false false true e f g = is_cell-same b (below a) g
-    go false false false e f g = is_cell-same b (above a) (stands-above k a b h e f g)
+    go true t u e f g = is_cell-some b (right a) e
+    go false true u e f g = is_cell-some b (left a) f
+    go false false true e f g = is_cell-some b (below a) g
+    go false false false e f g = is_cell-some b (above a) (stands-above k a b h e f g)
 
 -- ---- what it draws
 

@@ -14,11 +14,10 @@ use Rattle.tl_definitions.specs.Accepted.{IsPlaced}
 use Rattle.tl_definitions.specs.RegionText.{byte_at, is_blank, longest}
 use Rattle.tl_definitions.specs.Drawing.{is_letter, is_allowed, first_bad_letter}
 use Rattle.tl_definitions.specs.Marks.{row_part}
-use Rattle.tl_definitions.proofs.Regions.{nat_cases, row-complete, same_test}
+use Rattle.tl_definitions.proofs.Regions.{nat_cases, row-complete, same_test, has-within}
 use Rattle.tl_definitions.proofs.Sublists.{In, In-any}
 use Rattle.tl_definitions.proofs.Raster.{find-filter, filter-row_same}
 use Rattle.tl_definitions.proofs.RegionTexts.{length-longest}
-use Rattle.tl_definitions.proofs.Partners.{has-within}
 use Rattle.tl_definitions.proofs.Drawings.{find-rows_none, find-rows_first, find-row_cut}
 use Rattle.tl_tiling.specs.Letters.{letter_at, is_allowed_in, bad_in_row, ReadsLine, AreReadBefore, HasNoCellFrom, IsFirstCellFrom, AreReadLetters}
 

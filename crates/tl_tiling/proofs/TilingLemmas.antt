@@ -1,59 +1,28 @@
 -- What a tiling is to its cells, and that its partners determine it.
-use Rattle.std.proofs.Common.{◌≡◌, ℕ, ◌⊎◌, inl, inr, Bool, true, false, not, ◌&&◌, ◌||◌, List, [], ◌∷◌, cond, refl, sym, ◌∙◌, ap, subst, Option, Some, None}
-use Rattle.std.specs.Prelude.{find, count_by, option_map, option_and_then, ◌==◌}
-use Rattle.std.specs.List.{list_all}
-use Rattle.std.proofs.lemmas.Bool.{and_parts, and_from, or_cases, or_left, or_right, eqb-true}
+use Rattle.std.proofs.Common.{◌≡◌, ℕ, ◌⊎◌, inl, inr, Bool, true, false, not, ◌||◌, List, [], ◌∷◌, cond, refl, sym, ◌∙◌, ap, subst, Option, Some, None}
+use Rattle.std.specs.Prelude.{find, option_map, option_and_then, ◌==◌}
+use Rattle.std.proofs.lemmas.Bool.{and_from, or_cases, or_left, or_right}
 use Rattle.tl_definitions.specs.declared.Cell.{Cell}
 use Rattle.tl_definitions.specs.declared.Tile.{Tile}
 use Rattle.tl_definitions.specs.Lattice.{cell_eq, cell_lt, are_neighbours, is_cell, left, right, above, below}
 use Rattle.tl_definitions.specs.Region.{Region, has}
-use Rattle.tl_definitions.specs.Accepted.{linked}
 use Rattle.tl_definitions.specs.RegionText.{byte_at, is_blank}
-use Rattle.tl_definitions.specs.Tiling.{tile_lt, covers, is_tile, is_tiling, other_cell, partner}
+use Rattle.tl_definitions.specs.Tiling.{tile_lt, covers, is_tiling, other_cell, partner}
 use Rattle.tl_definitions.specs.Drawing.{is_letter, named, named_at, Draws, is_allowed, is_answered, is_matched, first_unmatched, drawing_refusal}
-use Rattle.tl_definitions.proofs.Regions.{cell_eq-same}
+use Rattle.tl_definitions.proofs.Regions.{cell_eq-same, some_same}
 use Rattle.tl_definitions.proofs.Neighbours.{neighbours-back, neighbours-differ}
 use Rattle.tl_definitions.proofs.Sublists.{In, In-any, cell_eq-refl, cell_lt-irreflexive, cell_lt-transitive, tile_lt-irreflexive, tile_lt-transitive}
-use Rattle.tl_definitions.proofs.Ordered.{In-list_all, linked-same, find-only, only-count_by, Only}
+use Rattle.tl_definitions.proofs.Ordered.{linked-same, find-only, Only}
 use Rattle.tl_definitions.proofs.Partners.{In-has, IsMatched, AreMatched}
+use Rattle.tl_definitions.proofs.NextCorner.{none-find}
 use Rattle.tl_definitions.proofs.Drawings.{AgreeOn, refused-none, first_unmatched-same}
-
-some_same : {A : Type 0} (x y : A) → Some x ≡ Some y → x ≡ y
-some_same x y e = cc e
-
-pub record TileParts (R : Region) (t : Tile) : Type 0 where
-  pub first : has R t.first ≡ true
-  pub second : has R t.second ≡ true
-  pub order : cell_lt t.first t.second ≡ true
-  pub near : are_neighbours R.kind t.first t.second ≡ true
-
-tile-parts : (R : Region) (t : Tile) → is_tile R t ≡ true → TileParts R t
-tile-parts R t e =
-    let p : ((has R t.first && has R t.second && cell_lt t.first t.second) ≡ true) × (are_neighbours R.kind t.first t.second ≡ true) = and_parts _ _ e in
-    let q : ((has R t.first && has R t.second) ≡ true) × (cell_lt t.first t.second ≡ true) = and_parts _ _ p.0 in
-    let s : (has R t.first ≡ true) × (has R t.second ≡ true) = and_parts _ _ q.0 in
-    record { first = s.0; second = s.1; order = q.1; near = p.1 }
-
-pub record TilingParts (R : Region) (A : List Tile) : Type 0 where
-  pub order : linked tile_lt A ≡ true
-  pub tiles : (t : Tile) → In t A → TileParts R t
-  pub covered : (a : Cell) → has R a ≡ true → (t : Tile) × Only (λ s. covers s a) A t
-
-pub tiling-parts : (R : Region) (A : List Tile) → is_tiling R A ≡ true → TilingParts R A
-tiling-parts R A e =
-    let p : ((linked tile_lt A && list_all (is_tile R) A) ≡ true) × (list_all (λ a. count_by (λ t. covers t a) A == 1) R.cells ≡ true) = and_parts _ _ e in
-    let q : (linked tile_lt A ≡ true) × (list_all (is_tile R) A ≡ true) = and_parts _ _ p.0 in
-    record {
-      order = q.0;
-      tiles = λ t i. tile-parts R t (In-list_all (is_tile R) A t q.1 i);
-      covered = λ a h. only-count_by (λ t. covers t a) A (eqb-true _ _ (In-list_all (λ a. count_by (λ t. covers t a) A == 1) R.cells a p.1 (In-any a R.cells h)));
-    }
+use Rattle.tl_definitions.proofs.Tilings.{TileParts, TilingParts, tiling-parts}
 
 module _ (R : Region) (A : List Tile) (tiling : TilingParts R A) where
   -- the tile that covers a cell is the one that is found
   found : (t : Tile) (a : Cell) → In t A → covers t a ≡ true → has R a ≡ true → find (λ s. covers s a) A ≡ Some t
   found t a i c h =
-      let (u, o) = tiling.covered a h in
+      let (u, o) = tiling.covered a (In-any a R.cells h) in
       find-only (λ s. covers s a) A t i c (λ s j d. o.only s j d ∙ sym (o.only t i c))
 
   first_other : (t : Tile) → other_cell t t.first ≡ t.second
@@ -65,18 +34,18 @@ module _ (R : Region) (A : List Tile) (tiling : TilingParts R A) where
   -- each cell of a tile has the other one as its partner
   pub partner-first : (t : Tile) → In t A → partner A t.first ≡ Some t.second
   partner-first t i =
-      ap (λ (o : Option Tile). option_map (λ s. other_cell s t.first) o) (found t t.first i (or_left _ _ (cell_eq-refl t.first)) (tiling.tiles t i).first)
+      ap (λ (o : Option Tile). option_map (λ s. other_cell s t.first) o) (found t t.first i (or_left _ _ (cell_eq-refl t.first)) (In-has t.first R.cells (tiling.tiles t i).first))
       ∙ ap (λ (c : Cell). Some c) (first_other t)
 
   pub partner-second : (t : Tile) → In t A → partner A t.second ≡ Some t.first
   partner-second t i =
       ap (λ (o : Option Tile). option_map (λ s. other_cell s t.second) o)
-      (found t t.second i (or_right (cell_eq t.first t.second) _ (cell_eq-refl t.second)) (tiling.tiles t i).second)
+      (found t t.second i (or_right (cell_eq t.first t.second) _ (cell_eq-refl t.second)) (In-has t.second R.cells (tiling.tiles t i).second))
       ∙ ap (λ (c : Cell). Some c) (second_other t (tiling.tiles t i))
 
   -- a tiling matches each cell with its partner
   pub tiling-matched : AreMatched R (partner A)
-  tiling-matched a h = go (tiling.covered a h)
+  tiling-matched a h = go (tiling.covered a (In-any a R.cells h))
     where
       go : (t : Tile) × Only (λ s. covers s a) A t → IsMatched R (partner A) a
       go (t, o) = at (tiling.tiles t o.inside) (or_cases (cell_eq t.first a) _ o.passes)
@@ -84,36 +53,28 @@ module _ (R : Region) (A : List Tile) (tiling : TilingParts R A) where
           at : TileParts R t → (cell_eq t.first a ≡ true) ⊎ (cell_eq t.second a ≡ true) → IsMatched R (partner A) a
           at p (inl e) =
               subst (IsMatched R (partner A)) (cell_eq-same t.first a e)
-              (t.second, partner-first t o.inside, p.second, p.near, partner-second t o.inside)
+              (t.second, partner-first t o.inside, In-has t.second R.cells p.second, p.near, partner-second t o.inside)
           at p (inr e) =
               subst (IsMatched R (partner A)) (cell_eq-same t.second a e)
-              (t.first, partner-second t o.inside, p.first, neighbours-back R.kind t.first t.second p.near, partner-first t o.inside)
-
-  find-nothing : (p : Tile → Bool) (ts : List Tile) → ((t : Tile) → In t ts → p t ≡ true → ⊥) → find p ts ≡ None
-  find-nothing p [] none = refl
-  find-nothing p (t ∷ ts) none = go (p t) refl (find-nothing p ts (λ u i. none u (inr i)))
-    where
-      go : (b : Bool) → p t ≡ b → find p ts ≡ None → cond b (Some t) (find p ts) ≡ None
-      go true e ih = absurd (none t (inl refl) e)
-      go false e ih = ih
+              (t.first, partner-second t o.inside, In-has t.first R.cells p.first, neighbours-back R.kind t.first t.second p.near, partner-first t o.inside)
 
   -- another place has none
   pub partner-outside : (a : Cell) → has R a ≡ false → partner A a ≡ None
-  partner-outside a h = ap (λ (o : Option Tile). option_map (λ s. other_cell s a) o) (find-nothing (λ s. covers s a) A none)
+  partner-outside a h = ap (λ (o : Option Tile). option_map (λ s. other_cell s a) o) (none-find (λ s. covers s a) A none)
     where
       none : (t : Tile) → In t A → covers t a ≡ true → ⊥
       none t i c = go (or_cases (cell_eq t.first a) _ c)
         where
           go : (cell_eq t.first a ≡ true) ⊎ (cell_eq t.second a ≡ true) → ⊥
-          go (inl e) = cc (sym (tiling.tiles t i).first, ap (has R) (cell_eq-same t.first a e), h)
-          go (inr e) = cc (sym (tiling.tiles t i).second, ap (has R) (cell_eq-same t.second a e), h)
+          go (inl e) = cc (sym (In-has t.first R.cells (tiling.tiles t i).first), ap (has R) (cell_eq-same t.first a e), h)
+          go (inr e) = cc (sym (In-has t.second R.cells (tiling.tiles t i).second), ap (has R) (cell_eq-same t.second a e), h)
 
 -- a tile of a tiling is one of each tiling with the same partners
 tile-in : (R : Region) (A B : List Tile) → TilingParts R A → TilingParts R B → AgreeOn R (partner A) (partner B) → (t : Tile) → In t A → In t B
 tile-in R A B a b same t i = go (b.covered t.first (a.tiles t i).first)
   where
     to : partner B t.first ≡ Some t.second
-    to = sym (same t.first (a.tiles t i).first) ∙ partner-first R A a t i
+    to = sym (same t.first (In-has t.first R.cells (a.tiles t i).first)) ∙ partner-first R A a t i
 
     go : (u : Tile) × Only (λ s. covers s t.first) B u → In t B
     go (u, o) = at (or_cases (cell_eq u.first t.first) _ o.passes)

@@ -5,7 +5,8 @@ use Rattle.tl_definitions.specs.Powers.{IsLeastPower, NoPower}
 use Rattle.tl_definitions.specs.Chain.{ChainMeaning, SameMeaning, ChainGathers}
 use Rattle.tl_chain.specs.declared.Drawn.TheVariants.{At, Late}
 use Rattle.tl_chain.proofs.Meaning.{SameMeaning-sym, SameMeaning-trans, ChainGathers-same}
-use Rattle.tl_chain.proofs.Search.{IsLeastPower-one, IsLeastPower-first, NoPower-least, NoPower-last}
+use Rattle.tl_definitions.proofs.Laws.{same_power}
+use Rattle.tl_chain.proofs.Search.{IsLeastPower-first, NoPower-least, NoPower-last}
 use Rattle.tl_chain.proofs.draw.Given
 use Rattle.tl_chain.proofs.draw.Goals as goal
 
@@ -23,7 +24,7 @@ at_start : (P : ℕ → Type 0) (bound from start : ℕ) → from ≡ start → 
     → (T : ℕ) → (At from ≡ At T → IsLeastPower P bound T) × (IsLeastPower P bound T → At from ≡ At T)
 at_start P bound from start is least T = (
   λ e. let same : start ≡ T = cc (e, is) in subst (IsLeastPower P bound) same least,
-  λ other. ap At (is ∙ IsLeastPower-one P bound start T least other),
+  λ other. ap At (is ∙ same_power P bound start T least other),
 )
 
 not_late : (P : ℕ → Type 0) (bound from start : ℕ) → IsLeastPower P bound start

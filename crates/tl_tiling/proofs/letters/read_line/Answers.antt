@@ -6,7 +6,7 @@ use Rattle.tl_definitions.specs.Lattice.{cell}
 use Rattle.tl_definitions.specs.Marks.{row_part}
 use Rattle.tl_definitions.specs.RegionText.{is_blank}
 use Rattle.tl_definitions.specs.Drawing.{is_letter}
-use Rattle.tl_definitions.proofs.Partners.{has-within}
+use Rattle.tl_definitions.proofs.Regions.{has-within}
 use Rattle.tl_tiling.specs.Letters.{is_allowed_in}
 use Rattle.tl_tiling.proofs.LineLemmas.{IsReadTo, read-blank, read-letter, read-whole, bad_here, not_allowed-inside}
 use Rattle.tl_tiling.proofs.letters.read_line.Goals as goal
