@@ -9,6 +9,7 @@ use Rattle.tl_definitions.specs.declared.Cell.{Cell}
 use Rattle.tl_definitions.specs.declared.Corner.{Corner}
 use Rattle.tl_definitions.specs.Lattice.{corner, is_corner, is_dark, corners, steps_out}
 use Rattle.tl_definitions.specs.Region.{Region, present, is_corner_of, is_inner}
+use Rattle.tl_definitions.specs.Darts.{cell_width}
 use Rattle.tl_definitions.proofs.Sublists.{In}
 use Rattle.tl_definitions.proofs.Corners.{corner-same}
 use Rattle.tl_lattice.specs.Places.{padded}
@@ -20,7 +21,7 @@ use Rattle.tl_closing.proofs.Sides.{dark-from, light-from, left_step, other_step
 use Rattle.tl_closing.proofs.Edges.{Step, corner_of-from, round-corners}
 use Rattle.tl_closing.proofs.Numbers.{corner-within}
 use Rattle.tl_closing.proofs.Ring.{HasRing, inner-ring}
-use Rattle.tl_height.specs.Standing.{left_reach, AreCornersOf}
+use Rattle.tl_height.specs.Standing.{AreCornersOf}
 use Rattle.tl_height.proofs.PresentLemmas.{present-padded}
 
 -- a step round one of the cells
@@ -131,13 +132,13 @@ pub record IsInside (R : Region) (v : Corner) : Type 0 where
   pub row : v.r ≤ 2 ^ 20
   pub column : v.x ≤ 2 ^ 20
   pub above : 0 < v.r
-  pub left : left_reach R.kind ≤ v.x
+  pub left : cell_width R.kind ≤ v.x
 
 pub inner-inside : (R : Region) (v : Corner) → IsKept R → is_inner R v ≡ true → IsInside R v
 inner-inside R v kept inner = go (first R.kind (and_parts _ _ inner).0 (inner-ring R v inner))
   where
     -- the first cell of its ring
-    first : (k : Kind) → is_corner k v ≡ true → HasRing k R.cells v → (a : Cell) × In a R.cells × In v (corners k a) × (a.r + 1 ≡ v.r) × (a.c + left_reach k ≡ v.x)
+    first : (k : Kind) → is_corner k v ≡ true → HasRing k R.cells v → (a : Cell) × In a R.cells × In v (corners k a) × (a.r + 1 ≡ v.r) × (a.c + cell_width k ≡ v.x)
     first Square e ((a, i, row, column), p, q, r) = (a, i, inr (inr (inr (inl (corner-same v _ (sym row) (sym column))))), row, column)
     first Triangle e ((a, i, row, column), p, q, r, s, t) = (a, i, among (eqb-true _ _ e), row, column)
       where
@@ -147,7 +148,7 @@ inner-inside R v kept inner = go (first R.kind (and_parts _ _ inner).0 (inner-ri
             (subst (λ (d : Bool). In v (corner_table Triangle d a.r a.c)) (sym (dark-from a (omega (arith, odd, row, column))))
             (inr (inr (inl (corner-same v _ (sym row) (sym column))))))
 
-    go : (a : Cell) × In a R.cells × In v (corners R.kind a) × (a.r + 1 ≡ v.r) × (a.c + left_reach R.kind ≡ v.x) → IsInside R v
+    go : (a : Cell) × In a R.cells × In v (corners R.kind a) × (a.r + 1 ≡ v.r) × (a.c + cell_width R.kind ≡ v.x) → IsInside R v
     go (a, i, j, row, column) =
         let here : is_corner_of R v ≡ true = corner_of-from R a v i j in
         let within : (v.r < R.rows + 1) × (v.x < R.columns + 2) = corner-within R v kept.placed here in

@@ -1,8 +1,6 @@
 -- How a tiling stands at a corner.
-use Rattle.std.specs.Prelude.{ℕ, Bool, List, Option, ℤ, All, IfSome, IsTrue, if◌then◌else◌}
+use Rattle.std.specs.Prelude.{Bool, List, Option, ℤ, All, IfSome, IsTrue, if◌then◌else◌}
 use Rattle.std.specs.List.{list_all}
-use Rattle.tl_definitions.specs.declared.Kind.{Kind}
-use Rattle.tl_definitions.specs.declared.Kind.TheVariants.{Square, Triangle}
 use Rattle.tl_definitions.specs.declared.Corner.{Corner}
 use Rattle.tl_definitions.specs.declared.Tile.{Tile}
 use Rattle.tl_definitions.specs.Region.{Region, is_corner_of}
@@ -14,11 +12,6 @@ use Rattle.tl_height.specs.HeightFunction.{falls_between}
 
 abbrev pub standing : Region → List Tile → Corner → Standing
 standing R A v = if stands_high R A v then High else (if stands_low R A v then Low else No)
-
--- how far left of a corner's own column the cells round it begin
-abbrev pub left_reach : Kind → ℕ
-left_reach Square = 1
-left_reach Triangle = 2
 
 -- the corners that are there are corners of the region
 abbrev pub AreCornersOf : Region → List (Option Corner) → Type 0

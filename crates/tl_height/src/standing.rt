@@ -3,7 +3,7 @@
 ghost use Rattle.std.specs.Prelude.{◌≡◌, ◌<◌, ◌≤◌, ◌^◌, map, Some};
 ghost use Rattle.tl_lattice.specs.Places.{padded};
 ghost use Rattle.tl_closing.specs.Standing.{steps_in as steps_to};
-ghost use Rattle.tl_height.specs.Standing.{left_reach};
+ghost use Rattle.tl_definitions.specs.Darts.{cell_width};
 
 use tl_lattice::{Corner, Kind};
 
@@ -25,7 +25,7 @@ pub fn steps_in(kind: Kind, corner: Corner) -> [Option<Corner>; 3]
     requires row { corner.r ≤ 2 ^ 20 }
     requires column { corner.x ≤ 2 ^ 20 }
     requires above { 0 < corner.r }
-    requires left { left_reach kind ≤ corner.x }
+    requires left { cell_width kind ≤ corner.x }
     ensures { result ≡ padded 3 (map (λ u. Some u) (steps_to kind corner)) }
 {
     let Corner { r, x } = corner;
