@@ -1,9 +1,9 @@
 -- A region without pinches has one circuit at most.
-use Rattle.std.proofs.Common.{◌≡◌, inl, inr, true, List, [], ◌∷◌, ◌++◌, map, refl, sym, ◌∙◌, ap, subst}
+use Rattle.std.proofs.Common.{◌≡◌, inl, inr, List, [], ◌∷◌, ◌++◌, map, refl, sym, ◌∙◌, ap, subst}
 use Rattle.tl_definitions.specs.declared.Corner.{Corner}
-use Rattle.tl_definitions.specs.Lattice.{corner_eq, Side}
+use Rattle.tl_definitions.specs.Lattice.{Side}
 use Rattle.tl_definitions.specs.Region.{Region, boundary}
-use Rattle.tl_definitions.specs.Accepted.{Accepted, IsCircuit, circuit_corners, distinct}
+use Rattle.tl_definitions.specs.Accepted.{Accepted, IsCircuit, circuit_corners}
 use Rattle.tl_definitions.proofs.Sublists.{In}
 use Rattle.tl_definitions.proofs.NextCorner.{one_side_from}
 use Rattle.tl_definitions.proofs.Walks.{IsFreeOfPinches, distinct-tail}

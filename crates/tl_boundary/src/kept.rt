@@ -1,6 +1,6 @@
 //! The circuit type.
 
-ghost use Rattle.std.specs.Prelude.{◌≡◌, ◌<◌, ◌≤◌, length, map, position, slice_get, option_map, pos, ◌-ℤ◌, ◌*ℤ◌, Some};
+ghost use Rattle.std.specs.Prelude.{◌≡◌, ◌<◌, ◌≤◌, length, map, position, slice_get, option_map, pos, ◌-ℤ◌, ◌*ℤ◌, ◌≤ℤ◌, neg_ℤ, Some};
 ghost use Rattle.tl_definitions.specs.Lattice.{corner_eq};
 ghost use Rattle.tl_definitions.specs.Region.{Region};
 ghost use Rattle.tl_definitions.specs.Accepted.{IsPlaced, IsCircuit, circuit_corners};
@@ -53,8 +53,8 @@ impl Circuit {
         self.walk.sides.len() as u32
     }
 
-    /// The sum of all signs. It is four times the number of dark cells less that of light cells, and three times on
-    /// the triangular lattice.
+    /// The sum of all signs. It is the number of dark cells less that of light ones, times 4, or times 3 on the
+    /// triangular lattice.
     pub fn total(&self) -> i64
         ensures signs { result ≡ int_sum (map sign_of self.now) }
         ensures total { (R : Region) → IsPlaced R → IsCircuit R self.now → result ≡ total_of R }
@@ -101,7 +101,9 @@ impl Circuit {
     /// The sum of the first `k` signs, at most `len` of them, in constant time.
     pub fn prefix(&self, k: u32) -> i64
         requires { k ≤ length self.now }
-        ensures { result ≡ prefix_of self.now k }
+        ensures prefix { result ≡ prefix_of self.now k }
+        ensures low { neg_ℤ (pos k) ≤ℤ result }
+        ensures high { result ≤ℤ pos k }
     {
         self.walk.prefixes[k as usize]
     }

@@ -4,12 +4,12 @@
 //! `docs/CLOSING.md` tells the proofs.
 #![tactic(auto)]
 
-ghost use Rattle.std.specs.Prelude.{◌≡◌, ◌+◌, ◌-◌, ◌*◌, List, map, ℤ, pos, negsuc, ◌+ℤ◌, ◌-ℤ◌, ◌*ℤ◌, ◌≤ℤ◌, IsTrue};
+ghost use Rattle.std.specs.Prelude.{◌≡◌, ℕ, slice_get, Some, ◌<◌, length, ◌+◌, ◌-◌, ◌*◌, List, map, ℤ, pos, negsuc, ◌+ℤ◌, ◌-ℤ◌, ◌*ℤ◌, ◌≤ℤ◌, IsTrue};
 ghost use Rattle.tl_definitions.specs.declared.Corner.{Corner};
 ghost use Rattle.tl_definitions.specs.declared.Tile.{Tile};
 ghost use Rattle.tl_definitions.specs.Lattice.{Side};
-ghost use Rattle.tl_definitions.specs.Region.{Region, is_corner_of, is_inner};
-ghost use Rattle.tl_definitions.specs.Accepted.{Accepted, IsPlaced, IsCircuit, cell_count};
+ghost use Rattle.tl_definitions.specs.Region.{Region, is_corner_of, is_inner, inner_corners};
+ghost use Rattle.tl_definitions.specs.Accepted.{Accepted, IsPlaced, IsCircuit, circuit_corners, cell_count};
 ghost use Rattle.tl_definitions.specs.Obstruction.{int_sum, sign, total};
 ghost use Rattle.tl_definitions.specs.Tiling.{is_tiling};
 ghost use Rattle.tl_definitions.specs.Heights.{rise, height, AreHeights, AreLawful};
@@ -51,6 +51,15 @@ pub fn standing_by_heights()
         → IsTrue (is_inner R v) → stands_high R A v ≡ falls_from R numbers v }
     ensures low { (R : Region) (A : List Tile) (numbers : List ℤ) (v : Corner) → IsTrue (is_tiling R A) → AreHeights R A numbers
         → IsTrue (is_inner R v) → stands_low R A v ≡ falls_to R numbers v }
+    ensures never_both { (R : Region) (A : List Tile) (v : Corner) → IsTrue (is_tiling R A) → IsTrue (stands_high R A v) → IsTrue (stands_low R A v) → ⊥ }
+{}
+
+/// The corners of a circuit and the inner corners are corners of the region.
+pub fn corners_of_the_region()
+    ensures on_circuit { (R : Region) (walk : List Side) (k : ℕ) (v : Corner) → IsPlaced R → IsCircuit R walk
+        → slice_get (circuit_corners walk) k ≡ Some v → IsTrue (is_corner_of R v) }
+    ensures inner { (R : Region) (i : ℕ) (v : Corner) → slice_get (inner_corners R) i ≡ Some v → IsTrue (is_corner_of R v) }
+    ensures some { (R : Region) (walk : List Side) → Accepted R → IsCircuit R walk → 0 < length walk }
 {}
 
 /// Lawful heights stay lawful where one of them, at an inner corner, is raised by the rise of a flip and they fall along

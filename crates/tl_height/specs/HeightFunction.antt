@@ -5,12 +5,12 @@ use Rattle.tl_definitions.specs.Accepted.{Accepted}
 use Rattle.tl_definitions.specs.Heights.{AreLawful}
 use Rattle.tl_grid.specs.Grid.{IsKept}
 
--- a region with lawful heights on its corners, as contracts see what holds both
+-- a region and the numbers of heights on its corners, as contracts see what holds both
 pub record HeightFunction : Type 0 where
   pub region : Region
   pub numbers : List ℤ
 
--- what holds of both: the region was read, and the heights are lawful
+-- what holds of both in a Heights: the region is kept and accepted, and the heights are lawful
 pub record IsHeightFunction (R : Region) (numbers : List ℤ) : Type 0 where
   pub kept : IsKept R
   pub accepted : Accepted R

@@ -79,7 +79,7 @@ fn height_at(circuit: &Circuit, tiling: &Tiling, corner: Corner, before: &[i32])
     }
 }
 
-// How many columns a cell spans, and so how far a corner is from its left neighbour.
+// How many corner columns a cell spans, and so how far a corner is from its left neighbour.
 fn cell_width(kind: Kind) -> u32
     ensures { result ≡ width_of kind }
 {

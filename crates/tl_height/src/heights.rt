@@ -1,6 +1,6 @@
 //! The type of height functions.
 
-ghost use Rattle.std.specs.Prelude.{◌≡◌, ◌+◌, ◌*◌, ◌<◌, ◌≤◌, List, length, slice_get, IfOk, IsTrue, Some};
+ghost use Rattle.std.specs.Prelude.{◌≡◌, ◌+◌, ◌*◌, ◌<◌, ◌≤◌, List, ◌-◌, ◌^◌, ◌≤ℤ◌, pos, negsuc, length, slice_get, IfOk, IsTrue, Some};
 ghost use Rattle.std.specs.List.{list_all};
 ghost use Rattle.tl_definitions.specs.declared.Corner.{Corner};
 ghost use Rattle.tl_definitions.specs.declared.Tile.{Tile};
@@ -47,6 +47,7 @@ impl<'a> Heights<'a> {
         requires { AreLawful region.now numbers.items }
         ensures { result ≡ record { region = region.now; numbers = numbers.items } }
     {
+        // the region's calls tell that it is accepted
         prove!(numbers.len() == (region.rows() as usize + 1) * (region.columns() as usize + 2));
         Heights { region, numbers }
     }
@@ -71,7 +72,9 @@ impl<'a> Heights<'a> {
     /// The height of a corner of the region.
     pub fn at(&self, corner: Corner) -> i32
         requires { IsTrue (is_corner_of self.now.region corner) }
-        ensures { result ≡ height self.now.region self.now.numbers corner }
+        ensures height { result ≡ height self.now.region self.now.numbers corner }
+        ensures low { negsuc (2 ^ 21 - 1) ≤ℤ result }
+        ensures high { result ≤ℤ pos (2 ^ 21) }
     {
         let width = self.region.columns() as usize + 2;
         self.numbers[corner.r as usize * width + corner.x as usize]
@@ -99,7 +102,7 @@ impl<'a> Heights<'a> {
         self.numbers.copy_from_slice(other.numbers.as_slice());
     }
 
-    /// Puts these numbers in the place of those from a place on. The heights have to be lawful with them.
+    /// Overwrites the numbers from `place` on with these. What results has to be lawful heights.
     pub fn put(&mut self, place: usize, numbers: &[i32])
         requires within { place + length numbers.now ≤ length self.old.numbers }
         requires lawful { AreLawful self.old.region (put_at place numbers.now self.old.numbers) }

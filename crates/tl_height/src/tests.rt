@@ -36,11 +36,12 @@ fn is_redrawn(alloc: Global, text: &[u8], drawing: &[u8]) -> bool
     }
 }
 
-// Whether this drawing of the square of four cells has these heights.
-fn has_numbers(alloc: Global, drawing: &[u8], wanted: &[i32]) -> bool
-    requires { length drawing.now ≤ 2 ^ 22 }
+// Whether this drawing of the region has these heights.
+fn has_numbers(alloc: Global, text: &[u8], drawing: &[u8], wanted: &[i32]) -> bool
+    requires text { length text.now ≤ 2 ^ 22 }
+    requires drawing { length drawing.now ≤ 2 ^ 22 }
 {
-    match redrawn(alloc, b"square\n##\n##\n", drawing) {
+    match redrawn(alloc, text, drawing) {
         Some((_, numbers)) => numbers[..] == wanted[..],
         None => false,
     }
@@ -68,12 +69,22 @@ fn heights_draw_their_tiling_again(rt: HostRuntime) {
 
 #[test]
 fn the_middle_of_a_square_is_high_or_low(rt: HostRuntime) {
+    let square = b"square\n##\n##\n".as_slice();
     let high = [0, -1, 0, 0, 1, 2, 1, 0, 0, -1, 0, 0];
-    assert!(rt; has_numbers(rt.alloc(), b"><\n><\n", &high));
-    assert!(rt; !has_numbers(rt.alloc(), b"vv\n^^\n", &high));
+    assert!(rt; has_numbers(rt.alloc(), square, b"><\n><\n", &high));
+    assert!(rt; !has_numbers(rt.alloc(), square, b"vv\n^^\n", &high));
     let low = [0, -1, 0, 0, 1, -2, 1, 0, 0, -1, 0, 0];
-    assert!(rt; has_numbers(rt.alloc(), b"vv\n^^\n", &low));
-    assert!(rt; !has_numbers(rt.alloc(), b"><\n><\n", &low));
+    assert!(rt; has_numbers(rt.alloc(), square, b"vv\n^^\n", &low));
+    assert!(rt; !has_numbers(rt.alloc(), square, b"><\n><\n", &low));
+}
+
+#[test]
+fn the_middle_of_a_hexagon_is_high_or_low(rt: HostRuntime) {
+    let hexagon = b"triangle\n###\n###\n".as_slice();
+    let high = [0, 0, 0, 1, 0, 1, 0, 2, 0, 0, 0, 0, 0, 1, 0];
+    assert!(rt; has_numbers(rt.alloc(), hexagon, b"><v\n><^\n", &high));
+    let low = [0, 0, 0, 1, 0, 1, 0, -1, 0, 0, 0, 0, 0, 1, 0];
+    assert!(rt; has_numbers(rt.alloc(), hexagon, b"v><\n^><\n", &low));
 }
 
 #[test]

@@ -78,7 +78,7 @@ reads c numbers h =
     let A = c.args.tiling.now.tiles in
     record {
       range = fill-range R A numbers c.requires.accepted c.region-region.ensures.tiling h c.requires.kept.rows_within c.requires.kept.columns_within c.args.corner c.requires.column;
-      is = c.prefix.ensures
+      is = c.prefix.ensures.prefix
           ∙ sym (fill-boundary R A numbers c.requires.accepted c.region-region.ensures.tiling h c.args.circuit.now c.in-Some.k c.args.corner c.requires.circuit
           (position-at (circuit_corners c.args.circuit.now) c.args.corner c.in-Some.k c.in-Some.ensures));
     }

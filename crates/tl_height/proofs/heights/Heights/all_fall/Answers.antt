@@ -35,7 +35,7 @@ returns-then-not-falls_between c =
     ∙ c.loop-corner.invariant
     ∙ rest-some (test s (bound s)) c.args.corners.now c.loop-corner.corner-index c.in-Some.corner c.loop-corner-test.true c.in-Some.is
     ∙ ap (λ (b : Bool). b && list_all (test s (bound s)) (present (drop (c.loop-corner.corner-index + 1) c.args.corners.now)))
-    (sym (falls-passed (bound s) _ c.at.result fits c.at.ensures) ∙ sym c.falls_between.ensures ∙ c.if-not-falls_between.true))
+    (sym (falls-passed (bound s) _ c.at.result fits c.at.ensures.height) ∙ sym c.falls_between.ensures ∙ c.if-not-falls_between.true))
 
 pub loop-corner-preserved : goal.loop-corner-preserved
 loop-corner-preserved c =
@@ -44,7 +44,7 @@ loop-corner-preserved c =
     c.loop-corner.invariant
     ∙ rest-some (test s (bound s)) c.args.corners.now c.loop-corner.corner-index c.in-Some.corner c.loop-corner-test.true c.in-Some.is
     ∙ ap (λ (b : Bool). b && list_all (test s (bound s)) (present (drop (c.loop-corner.corner-index + 1) c.args.corners.now)))
-    (sym (falls-passed (bound s) _ c.at.result fits c.at.ensures) ∙ sym c.falls_between.ensures ∙ c.if-not-falls_between.false)
+    (sym (falls-passed (bound s) _ c.at.result fits c.at.ensures.height) ∙ sym c.falls_between.ensures ∙ c.if-not-falls_between.false)
 
 pub returns : goal.returns
 returns c =

@@ -5,6 +5,16 @@ use mir.Val.{SFits}
 use Rattle.tl_definitions.specs.Region.{is_corner_of}
 use Rattle.tl_definitions.specs.Heights.{height}
 use Rattle.tl_height.specs.HeightFunction.{HeightFunction}
+use Rattle.std.specs.Prelude.{List, ℤ, ◌-◌, ◌^◌, ◌≤◌, ◌≤ℤ◌, negsuc}
+use Rattle.std.proofs.lemmas.Int.{ints}
+use Rattle.std.proofs.Math.Nat.{mul-le-mul}
+use Rattle.tl_definitions.specs.declared.Corner.{Corner}
+use Rattle.tl_definitions.specs.Region.{Region}
+use Rattle.tl_definitions.specs.Accepted.{Accepted, cell_count}
+use Rattle.tl_definitions.specs.Heights.{AreLawful}
+use Rattle.tl_closing.proofs.Bounds.{Within, heights-small}
+use Rattle.tl_closing.proofs.Numbers.{corner-within}
+use Rattle.tl_closing.proofs.Filling.{cells-few}
 use Rattle.tl_height.proofs.HeightPlaces.{place-within}
 use Rattle.tl_height.proofs.heights.Heights.at.Goals as goal
 use Rattle.tl_height.proofs.heights.Heights.at.Goals.{After-columns}
@@ -18,10 +28,43 @@ within c =
 pub index-requires : goal.index-requires
 index-requires c = omega (arith, within (goal.at.index-requires c).After-columns)
 
-pub returns : goal.returns
-returns c =
+pub returns-clause-height : goal.returns-clause-height
+returns-clause-height c =
     let fits : SFits w32 c.index.result.now = search rules in
     to_z-of_z w32 c.index.result.now fits
-    ∙ get_or_read c.self.inside.numbers.items _ _ (within (goal.at.returns c).After-columns) c.index.ensures (pos 0)
+    ∙ get_or_read c.self.inside.numbers.items _ _ (within (goal.at.returns-clause-height c).After-columns) c.index.ensures (pos 0)
     ∙ ap (λ (n : ℕ). height (record c.self.inside.region.now { columns = n }) c.self.inside.numbers.items c.args.corner) c.columns.ensures.columns
     ∙ ap (λ (f : HeightFunction). height f.region f.numbers c.args.corner) c.self.view_is
+
+near : (R : Region) (numbers : List ℤ) (v : Corner) → Accepted R → AreLawful R numbers → R.rows ≤ 512 → R.columns ≤ 512 → is_corner_of R v ≡ true
+    → (z y : ℤ) → z ≡ height R numbers v → y ≡ z → (negsuc (2 ^ 21 - 1) ≤ℤ y) × (y ≤ℤ pos (2 ^ 21))
+near R numbers v accepted lawful rows columns e z y f g = (omega (arith, ints, s.0, s.1, f, g, few, column, columns), omega (arith, ints, s.0, s.1, f, g, few, column, columns))
+  where
+    s : Within (4 * cell_count R + 3 * v.x) (height R numbers v)
+    s = heights-small R numbers accepted lawful v e
+
+    column : v.x < R.columns + 2
+    column = (corner-within R v accepted.placed e).1
+
+    few : cell_count R ≤ 512 * 512
+    few = let least : cell_count R ≤ R.rows * R.columns = cells-few R accepted.placed in omega (arith, least, mul-le-mul rows columns)
+
+pub returns-clause-low : goal.returns-clause-low
+returns-clause-low c =
+    let fits : SFits w32 c.index.result.now = search rules in
+    (near c.self.inside.region.now c.self.inside.numbers.items c.args.corner c.self.invariant.accepted c.self.invariant.lawful c.self.invariant.kept.rows_within c.self.invariant.kept.columns_within
+    (subst (λ (f : HeightFunction). is_corner_of f.region c.args.corner ≡ true) (sym c.self.view_is) c.requires)
+    c.index.result.now _
+    (get_or_read c.self.inside.numbers.items _ _ (within (goal.at.returns-clause-low c).After-columns) c.index.ensures (pos 0)
+    ∙ ap (λ (n : ℕ). height (record c.self.inside.region.now { columns = n }) c.self.inside.numbers.items c.args.corner) c.columns.ensures.columns)
+    (to_z-of_z w32 c.index.result.now fits)).0
+
+pub returns-clause-high : goal.returns-clause-high
+returns-clause-high c =
+    let fits : SFits w32 c.index.result.now = search rules in
+    (near c.self.inside.region.now c.self.inside.numbers.items c.args.corner c.self.invariant.accepted c.self.invariant.lawful c.self.invariant.kept.rows_within c.self.invariant.kept.columns_within
+    (subst (λ (f : HeightFunction). is_corner_of f.region c.args.corner ≡ true) (sym c.self.view_is) c.requires)
+    c.index.result.now _
+    (get_or_read c.self.inside.numbers.items _ _ (within (goal.at.returns-clause-high c).After-columns) c.index.ensures (pos 0)
+    ∙ ap (λ (n : ℕ). height (record c.self.inside.region.now { columns = n }) c.self.inside.numbers.items c.args.corner) c.columns.ensures.columns)
+    (to_z-of_z w32 c.index.result.now fits)).1

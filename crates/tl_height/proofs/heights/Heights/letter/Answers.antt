@@ -80,21 +80,21 @@ right_told : (c : After-at-lower_right) → falls_between (to_z w32 (of_z w32 c.
 right_told c =
     let fits : SFits w32 c.at-upper_right.result = search rules in
     let fits' : SFits w32 c.at-lower_right.result = search rules in
-    both-passed _ _ c.at-upper_right.result c.at-lower_right.result fits fits' c.at-upper_right.ensures c.at-lower_right.ensures
+    both-passed _ _ c.at-upper_right.result c.at-lower_right.result fits fits' c.at-upper_right.ensures.height c.at-lower_right.ensures.height
 
 left_told : (c : After-at-lower_right) → falls_between (to_z w32 (of_z w32 c.at-upper_left.result)) (to_z w32 (of_z w32 c.at-lower_left.result))
     ≡ falls_at c.args.self.now.region c.args.self.now.numbers c.side_ends-ends.result.upper_left c.side_ends-ends.result.lower_left
 left_told c =
     let fits : SFits w32 c.at-upper_left.result = search rules in
     let fits' : SFits w32 c.at-lower_left.result = search rules in
-    both-passed _ _ c.at-upper_left.result c.at-lower_left.result fits fits' c.at-upper_left.ensures c.at-lower_left.ensures
+    both-passed _ _ c.at-upper_left.result c.at-lower_left.result fits fits' c.at-upper_left.ensures.height c.at-lower_left.ensures.height
 
 lower_told : (c : After-at-lower_right) → falls_between (to_z w32 (of_z w32 c.at-lower_left.result)) (to_z w32 (of_z w32 c.at-lower_right.result))
     ≡ falls_at c.args.self.now.region c.args.self.now.numbers c.side_ends-ends.result.lower_left c.side_ends-ends.result.lower_right
 lower_told c =
     let fits : SFits w32 c.at-lower_left.result = search rules in
     let fits' : SFits w32 c.at-lower_right.result = search rules in
-    both-passed _ _ c.at-lower_left.result c.at-lower_right.result fits fits' c.at-lower_left.ensures c.at-lower_right.ensures
+    both-passed _ _ c.at-lower_left.result c.at-lower_right.result fits fits' c.at-lower_left.ensures.height c.at-lower_right.ensures.height
 
 pub returns-then-falls_between : goal.returns-then-falls_between
 returns-then-falls_between c =
