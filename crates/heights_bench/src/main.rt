@@ -13,6 +13,7 @@ use std::env;
 use std::num::nearest_u64_to_f64;
 use std::time::{CpuClock, Duration};
 use tl_boundary::circuit;
+use tl_formats::INPUT_LIMIT;
 use tl_height::of_tiling;
 use tl_io::{StdSource, read_all};
 use tl_region::{Region, read_region};
@@ -92,7 +93,7 @@ struct Found {
 
 // Reads the input and measures so many runs.
 fn bench(rt: &impl CpuClock, alloc: Global, input: &[u8], runs: u32) -> Result<Found>
-    requires { length input.now ≤ 2 ^ 22 }
+    requires { length input.now ≤ INPUT_LIMIT }
 {
     let (region, taken) = read_region(alloc, input)?;
     let (_, rest) = input.split_at(taken);
@@ -118,7 +119,7 @@ fn main(rt: HostRuntime) -> Result<()> {
     let runs = args.next().context("runs")?;
     let runs: u32 = runs.as_str().parse().context("runs")?;
     let mut source = StdSource::new(rt);
-    let input = read_all(rt.alloc(), &mut source, 1 << 22)?;
+    let input = read_all(rt.alloc(), &mut source, INPUT_LIMIT)?;
     let found = bench(&rt, rt.alloc(), &input, runs)?;
     let drawing = if found.same {
         "the drawing"

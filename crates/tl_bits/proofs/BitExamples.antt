@@ -1,7 +1,7 @@
 -- The numbered words and bits.
 use Rattle.std.proofs.Common.{◌≡◌, ◌==◌, ◌^◌, true, false, [], ◌∷◌, map, refl}
 use Rattle.rand_chacha.specs.Block.{quarter_round, column_round, diagonal_round, double_rounds, block_word}
-use Rattle.tl_definitions.specs.Region.{upto}
+use Rattle.tl_lists.specs.Lists.{upto}
 use Rattle.tl_bits.specs.Bits.{key, word, place, words_for, bit, bit_at}
 use Rattle.tl_bits.specs.Sources.{numbered_word, listed_word}
 

@@ -101,15 +101,15 @@ fn a_list_gives_its_words_and_then_0(rt: HostRuntime) -> Result<(), Fail> {
     Ok(())
 }
 
-// Only what may go to a thread can be moved by this.
-fn moved<B: Bits + Send>(bits: B) -> B
+// Only what threads may share and pass on can be moved by this.
+fn moved<B: Bits + Send + Sync>(bits: B) -> B
     ensures { result ≡ bits }
 {
     bits
 }
 
 #[test]
-fn sources_may_go_to_a_thread(rt: HostRuntime) -> Result<(), Fail> {
+fn sources_may_go_to_threads(rt: HostRuntime) -> Result<(), Fail> {
     let mut numbered = moved(Numbered::new(0, 0, 1));
     assert_eq!(rt; numbered.word(1, 0), 0xade0b876);
     let mut listed = moved(Listed::new(1, vec![in rt.alloc(); 7]?));

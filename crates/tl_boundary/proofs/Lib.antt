@@ -1,4 +1,4 @@
 mod Prefixes
-mod KeptLemmas
+mod PassedLemmas
 mod RoundLemmas
 mod OneCircuit

@@ -4,7 +4,7 @@ use Rattle.tl_definitions.specs.declared.Corner.{Corner}
 use Rattle.tl_definitions.specs.Lattice.{Side}
 use Rattle.tl_definitions.specs.Region.{Region, boundary}
 use Rattle.tl_definitions.specs.Accepted.{Accepted, IsCircuit, circuit_corners}
-use Rattle.tl_definitions.proofs.Sublists.{In}
+use Rattle.tl_lists.proofs.Members.{In}
 use Rattle.tl_definitions.proofs.NextCorner.{one_side_from}
 use Rattle.tl_definitions.proofs.Walks.{IsFreeOfPinches, distinct-tail}
 use Rattle.tl_definitions.proofs.Circuits.{no_pinch-sides}

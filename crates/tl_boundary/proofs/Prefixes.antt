@@ -4,7 +4,8 @@ use Rattle.std.specs.Prelude.{slice_get, option_map}
 use Rattle.std.proofs.lemmas.Int.{ints}
 use Rattle.std.proofs.lemmas.List.{take-append-le, take_all}
 use Rattle.tl_definitions.specs.Lattice.{is_dark, Side}
-use Rattle.tl_definitions.specs.Obstruction.{sign, prefix, int_sum}
+use Rattle.tl_definitions.specs.Obstruction.{sign, prefix}
+use Rattle.tl_lists.specs.Lists.{int_sum}
 
 -- a sign is 1 or -1
 pub sign-small : (s : Side) → (negsuc 0 ≤ℤ sign s) × (sign s ≤ℤ pos 1)

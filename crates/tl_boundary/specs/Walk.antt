@@ -8,14 +8,15 @@ use Rattle.tl_definitions.specs.Obstruction.{prefix}
 use Rattle.tl_grid.specs.Inner.{number_in}
 use Rattle.tl_grid.specs.Sides.{side_of}
 use Rattle.tl_boundary.specs.declared.walk.Walk.{Walk}
+use Rattle.tl_definitions.specs.declared.TheConstants.{NO_NUMBER}
 
 -- no side has left the corner of the place
 abbrev pub is_free : ℕ → Bool
-is_free place = place == 4294967295
+is_free place = place == NO_NUMBER
 
 -- The sides, the sums of the signs of the first of them, and the number of each corner place of the region among the
 -- corners from which they go. Each of them has taken one place.
-pub record Keeps (R : Region) (sides : List Side) (w : Walk) : Type 0 where
+pub record HasPassed (R : Region) (sides : List Side) (w : Walk) : Type 0 where
   pub width : w.width ≡ R.columns + 2
   pub size : length w.places.items ≡ (R.rows + 1) * (R.columns + 2)
   pub passed : map side_of w.sides.items ≡ sides

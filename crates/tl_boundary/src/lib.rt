@@ -9,22 +9,23 @@ ghost use Rattle.std.specs.Prelude.{◌≡◌, [], List, IsTrue, IfOk, OnOk};
 ghost use Rattle.tl_definitions.specs.Lattice.{Side};
 ghost use Rattle.tl_definitions.specs.Accepted.{Accepted, IsCircuit};
 ghost use Rattle.tl_definitions.specs.Boundary.{is_boundary_corner, IsClosedWalk};
-ghost use Rattle.tl_grid.specs.Grid.{IsKept};
-ghost use Rattle.tl_boundary.specs.Walk.{Keeps};
+ghost use Rattle.tl_grid.specs.Grid.{IsGrid};
+ghost use Rattle.tl_boundary.specs.Walk.{HasPassed};
 
-mod kept;
+mod circuit_type;
 mod walk;
 
 use crate::walk::Walk;
-pub use kept::Circuit;
+pub use circuit_type::Circuit;
 use std::alloc::{AllocError, Global};
 use tl_lattice::Corner;
 use tl_region::Region;
 
-/// The boundary circuit of the region, in time linear in its rows times its columns.
+/// The boundary circuit of the region.
 pub fn circuit(alloc: Global, region: &Region) -> Result<Circuit, AllocError>
     ensures circuit { IfOk result (IsCircuit region.now) }
-    ensures only { IfOk result (λ circuit. (other : List Side) → IsCircuit region.now other → other ≡ circuit) }
+    ensures only { IfOk result (λ circuit. (other : List Side) → IsCircuit region.now other
+        → other ≡ circuit) }
 {
     let mut walk = Walk::new(alloc, region)?;
     if let Some(start) = region.first_boundary_corner() {
@@ -35,11 +36,12 @@ pub fn circuit(alloc: Global, region: &Region) -> Result<Circuit, AllocError>
 
 // Goes along the boundary, with the region on the left, until it comes back.
 fn go_round(region: &Region, start: Corner, walk: &mut Walk) -> Result<(), AllocError>
-    requires kept { IsKept region.now }
+    requires is_grid { IsGrid region.now }
     requires accepted { Accepted region.now }
     requires start { IsTrue (is_boundary_corner region.now start) }
-    requires empty { Keeps region.now [] walk.old }
-    ensures { OnOk result ((sides : List Side) × IsClosedWalk region.now start sides × Keeps region.now sides walk.new) }
+    requires empty { HasPassed region.now [] walk.old }
+    ensures { OnOk result ((sides : List Side) × IsClosedWalk region.now start sides
+        × HasPassed region.now sides walk.new) }
 {
     let mut corner = start;
     while !walk.has(corner) {

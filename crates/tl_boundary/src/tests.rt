@@ -4,12 +4,13 @@ ghost use Rattle.std.specs.Prelude.{◌≤◌, ◌^◌, length};
 
 use crate::{Circuit, circuit};
 use std::alloc::Global;
+use tl_formats::INPUT_LIMIT;
 use tl_lattice::Corner;
 use tl_region::read_region;
 
 // The circuit of the region that a text describes.
 fn circuit_of(alloc: Global, text: &[u8]) -> Option<Circuit>
-    requires { length text.now ≤ 2 ^ 22 }
+    requires { length text.now ≤ INPUT_LIMIT }
 {
     let (region, _) = read_region(alloc, text).ok()?;
     circuit(alloc, &region).ok()
@@ -112,4 +113,12 @@ fn corners_off_the_circuit_have_no_place(rt: HostRuntime) {
             assert_eq!(rt; circuit.place_of(Corner { r, x }), None);
         }
     }
+}
+
+// Only a type whose values threads may share and pass on can be put here.
+fn may_go_to_threads<T: Send + Sync>() {}
+
+#[test]
+fn circuits_may_go_to_threads() {
+    may_go_to_threads::<Circuit>();
 }

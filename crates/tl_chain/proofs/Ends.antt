@@ -1,6 +1,6 @@
 -- Two ends instead of all lawful states.
 use Rattle.std.proofs.Common.{◌≡◌, ℕ, ◌^◌, ◌≤◌, sym, ◌∙◌, subst}
-use Rattle.tl_definitions.specs.Chain.{ChainMeaning, IsLawfulChain, ChainGathers, AllCarriedTo}
+use Rattle.tl_chain.specs.Chain.{ChainMeaning, IsLawfulChain, ChainGathers, AllCarriedTo}
 
 -- From a start from which the two ends are carried to one state every lawful state is, since it is carried between them.
 pub AllCarriedTo-ends : {S : Type 0} (M : ChainMeaning S) (from : ℕ) → IsLawfulChain M → 1 ≤ from → from ≤ 2 ^ 30

@@ -1,4 +1,4 @@
 pub mod Meaning
 pub mod Ends
 pub mod Search
-mod Examples
+mod ChainExamples

@@ -1,6 +1,6 @@
 -- Chains that mean the same.
 use Rattle.std.proofs.Common.{ℕ, refl, sym, ◌∙◌}
-use Rattle.tl_definitions.specs.Chain.{ChainMeaning, SameMeaning, ChainGathers}
+use Rattle.tl_chain.specs.Chain.{ChainMeaning, SameMeaning, ChainGathers}
 
 pub SameMeaning-refl : {S : Type 0} (M : ChainMeaning S) → SameMeaning M M
 SameMeaning-refl M = record {

@@ -1,7 +1,7 @@
 -- The least power of two.
 use Rattle.std.proofs.Common.{ℕ, ◌^◌, ◌≤◌, ◌<◌, refl, subst, arith, below_more}
-use Rattle.tl_definitions.specs.Powers.{IsLeastPower, NoPower}
-use Rattle.tl_definitions.specs.Chain.{ChainMeaning, SameMeaning, ChainGathers}
+use Rattle.tl_lists.specs.Powers.{IsLeastPower, NoPower}
+use Rattle.tl_chain.specs.Chain.{ChainMeaning, SameMeaning, ChainGathers}
 
 -- where there is a least power, some power has the property
 pub NoPower-least : (P : ℕ → Type 0) (bound T : ℕ) → IsLeastPower P bound T → NoPower P bound → ⊥
@@ -26,7 +26,7 @@ NoPower-last P bound exponent last none here k h =
 
 -- What the search has come to at an exponent: `M` is the meaning of the chain as it was lent, `N` as it is.
 pub record Searched {S : Type 0} (M N : ChainMeaning S) (low high : S) (exponent : ℕ) : Type 0 where
-  pub kept : SameMeaning M N
+  pub same_meaning : SameMeaning M N
   pub low_belongs : M.belongs low
   pub high_belongs : M.belongs high
   pub none : (k : ℕ) → k < exponent → ¬ ChainGathers M (2 ^ k)

@@ -1,6 +1,6 @@
--- A walk on the places 0, 1, .., top: the chain of the tests.
+-- A walk on the places 0, 1, .., top: a chain of the tests.
 use Rattle.std.specs.Prelude.{ℕ, zero, suc, ◌+◌, ◌-◌, ◌≤◌, ⊤, Bool, false, if◌then◌else◌, List, nat_lt, slice_get, unwrap_or}
-use Rattle.tl_definitions.specs.Chain.{ChainMeaning}
+use Rattle.tl_chain.specs.Chain.{ChainMeaning}
 
 -- one place up, or down, and no further than the ends
 abbrev pub stepped : ℕ → Bool → ℕ → ℕ

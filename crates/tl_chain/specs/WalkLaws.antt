@@ -1,7 +1,7 @@
 -- The walk is a lawful chain.
 use Rattle.std.proofs.Common.{◌≡◌, ℕ, zero, suc, ◌≤◌, Bool, true, false, List, arith}
 use Rattle.std.proofs.lemmas.Bool.Decides.{nat_tests}
-use Rattle.tl_definitions.specs.Chain.{IsLawfulChain}
+use Rattle.tl_chain.specs.Chain.{IsLawfulChain}
 use Rattle.tl_chain.specs.Walk.{stepped, goes_up, walked, walk}
 
 stepped-le : (top : ℕ) (up : Bool) (s : ℕ) → s ≤ top → stepped top up s ≤ top

@@ -6,7 +6,7 @@
 #![tactic(auto)]
 
 ghost use Rattle.std.specs.Prelude.{◌≡◌, ℕ, ◌^◌, ◌≤◌, ◌↔◌, IsTrue};
-ghost use Rattle.tl_definitions.specs.Chain.{
+ghost use Rattle.tl_chain.specs.Chain.{
   ChainMeaning,
   IsLawfulChain,
   SameMeaning,
@@ -17,7 +17,7 @@ ghost use Rattle.tl_definitions.specs.Chain.{
 };
 
 #[cfg(test)]
-mod walk;
+mod examples;
 
 /// A monotone chain. `docs/OWN_CHAIN.md` shows how to write one.
 ///
@@ -37,7 +37,7 @@ pub trait Chain {
         ensures high { high.new ≡ (meaning self.old).high }
         ensures low_belongs { (meaning self.old).belongs low.new }
         ensures high_belongs { (meaning self.old).belongs high.new }
-        ensures kept { SameMeaning (meaning self.old) (meaning self.new) };
+        ensures same_meaning { SameMeaning (meaning self.old) (meaning self.new) };
 
     /// Carries both states from the start `from` to time 0.
     fn stretch(&mut self, low: &mut Self::State, high: &mut Self::State, from: u64)
@@ -52,7 +52,7 @@ pub trait Chain {
         ensures high { high.new ≡ (meaning self.old).carried high.old from }
         ensures low_belongs { (meaning self.old).belongs low.new }
         ensures high_belongs { (meaning self.old).belongs high.new }
-        ensures kept { SameMeaning (meaning self.old) (meaning self.new) };
+        ensures same_meaning { SameMeaning (meaning self.old) (meaning self.new) };
 
     /// Whether the two states are the same.
     fn same(&self, low: &Self::State, high: &Self::State) -> bool
@@ -85,7 +85,7 @@ fn gathers<C: Chain>(chain: &mut C, low: &mut C::State, high: &mut C::State, fro
     ensures high_lawful { (C.meaning chain.old).lawful high.new }
     ensures low_belongs { (C.meaning chain.old).belongs low.new }
     ensures high_belongs { (C.meaning chain.old).belongs high.new }
-    ensures kept { SameMeaning (C.meaning chain.old) (C.meaning chain.new) }
+    ensures same_meaning { SameMeaning (C.meaning chain.old) (C.meaning chain.new) }
 {
     chain.ends(low, high);
     chain.stretch(low, high, from);
@@ -112,7 +112,7 @@ pub fn draw<C: Chain>(chain: &mut C, low: &mut C::State, high: &mut C::State, bo
     ensures low_belongs { (C.meaning chain.old).belongs low.new }
     ensures high_belongs { (C.meaning chain.old).belongs high.new }
 
-    ensures kept { SameMeaning (C.meaning chain.old) (C.meaning chain.new) }
+    ensures same_meaning { SameMeaning (C.meaning chain.old) (C.meaning chain.new) }
 {
     for exponent in 0..=bound {
         let from = 1 << exponent;

@@ -7,16 +7,16 @@ use Rattle.std.proofs.lemmas.Bool.{and_parts, and_from, and_cases, not-false, or
 use Rattle.tl_definitions.specs.declared.Cell.{Cell}
 use Rattle.tl_definitions.specs.declared.Corner.{Corner}
 use Rattle.tl_definitions.specs.declared.Tile.{Tile}
-use Rattle.tl_definitions.specs.Lattice.{corner_eq, is_dark, Side, sides}
+use Rattle.tl_definitions.specs.Lattice.{corner_eq, is_dark, Side, sides, rise}
 use Rattle.tl_definitions.specs.Region.{Region, all_sides, is_other_side, is_boundary, boundary, joins_corners}
 use Rattle.tl_definitions.specs.Tiling.{is_tiling}
-use Rattle.tl_definitions.specs.Heights.{rise, climb}
-use Rattle.tl_definitions.proofs.Sublists.{In, In-map, In-flat_map, In-any_of, In-flat_map_parts, In-map_parts}
-use Rattle.tl_definitions.proofs.Ordered.{In-filter_parts, In-list_all}
+use Rattle.tl_definitions.specs.Heights.{climb}
+use Rattle.tl_lists.proofs.Members.{In, In-map, In-flat_map, In-any_of, In-flat_map_parts, In-map_parts, In-filter_parts, In-list_all}
 use Rattle.tl_definitions.proofs.Corners.{corner_eq-same, corner_eq-refl}
 use Rattle.tl_definitions.proofs.Tilings.{TilingParts, tiling-parts}
 use Rattle.tl_closing.specs.Closing.{step_along, steps_round}
-use Rattle.tl_closing.proofs.Steps.{IsStepOut, step-one_way}
+use Rattle.tl_definitions.proofs.Steps.{IsStepOut}
+use Rattle.tl_closing.proofs.Residues.{step-one_way}
 use Rattle.tl_closing.proofs.Sides.{directed}
 use Rattle.tl_closing.proofs.Centres.{cell-one}
 use Rattle.tl_closing.proofs.Edges.{Step, round-step}

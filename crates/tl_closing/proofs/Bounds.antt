@@ -1,5 +1,5 @@
 -- Lawful heights are no larger than the circuit is long and three times the column.
-use Rattle.std.proofs.Common.{◌≡◌, ℕ, zero, suc, ◌+◌, ◌-◌, ◌*◌, ◌≤◌, min, ◌⊎◌, inl, inr, Bool, true, false, List, [], ◌∷◌, map, take, length, flat_map, cond, Some, sym, ◌∙◌, ap, subst, arith, ℤ, pos, negsuc, ◌+ℤ◌, ◌≤ℤ◌, int_lt}
+use Rattle.std.proofs.Common.{◌≡◌, ℕ, zero, suc, ◌+◌, ◌-◌, ◌*◌, ◌≤◌, min, ◌⊎◌, inl, inr, Bool, true, false, List, [], ◌∷◌, map, take, length, flat_map, cond, Some, sym, ◌∙◌, ap, subst, arith, ℤ, pos, negsuc, ◌+ℤ◌, ◌≤ℤ◌}
 use Rattle.std.specs.Prelude.{slice_get, IsTrue}
 use Rattle.std.proofs.lemmas.Int.{ints}
 use Rattle.std.proofs.lemmas.List.{length-take, length-append, length-map}
@@ -7,20 +7,21 @@ use Rattle.tl_definitions.specs.declared.Kind.{Kind}
 use Rattle.tl_definitions.specs.declared.Kind.TheVariants.{Square, Triangle}
 use Rattle.tl_definitions.specs.declared.Cell.{Cell}
 use Rattle.tl_definitions.specs.declared.Corner.{Corner}
-use Rattle.tl_definitions.specs.Lattice.{is_dark, Side, sides}
-use Rattle.tl_definitions.specs.Region.{Region, all_sides, side_eq, is_boundary, boundary, is_corner_of, is_inner}
+use Rattle.tl_definitions.specs.Lattice.{is_dark, Side, sides, cell_width, rise}
+use Rattle.tl_definitions.specs.Region.{Region, all_sides, side_eq, is_boundary, boundary, is_corner_of, is_inner, is_step}
 use Rattle.tl_definitions.specs.Accepted.{Accepted, IsCircuit, circuit_corners, cell_count}
-use Rattle.tl_definitions.specs.Obstruction.{int_sum, sign, prefix, is_step}
-use Rattle.tl_definitions.specs.Heights.{rise, height, AreLawful}
-use Rattle.tl_definitions.proofs.Sublists.{In}
+use Rattle.tl_definitions.specs.Obstruction.{sign, prefix}
+use Rattle.tl_lists.specs.Lists.{int_sum}
+use Rattle.tl_definitions.specs.Heights.{height, AreLawful}
+use Rattle.tl_lists.proofs.Members.{In-slice_get}
 use Rattle.tl_definitions.proofs.Walks.{side_eq-same, side_eq-refl}
-use Rattle.tl_closing.specs.Closing.{step_along, steps_round}
-use Rattle.tl_closing.proofs.Members.{Distinct, without, length-without, length-filter_le}
-use Rattle.tl_closing.proofs.Edges.{Distinct-cells, is_step-parts}
+use Rattle.tl_closing.specs.Closing.{step_along}
+use Rattle.tl_lists.proofs.Distinct.{Distinct, without, length-without, length-filter_le}
+use Rattle.tl_closing.proofs.Edges.{Distinct-cells}
 use Rattle.tl_closing.proofs.Circuit.{boundary-walk, walk-boundary, Distinct-walk}
 use Rattle.tl_closing.proofs.Crossed.{length-round}
-use Rattle.tl_closing.proofs.Falls.{falls-by}
-use Rattle.tl_closing.proofs.Ring.{BeginsAt, inner-or-boundary, inner-left, left_gap, LeftNeighbour}
+use Rattle.tl_closing.proofs.AlongSteps.{step-value}
+use Rattle.tl_closing.proofs.Ring.{BeginsAt, inner-or-boundary, inner-left, LeftNeighbour}
 
 -- between -n and n
 abbrev pub Within : ℕ → ℤ → Type 0
@@ -43,19 +44,7 @@ prefix-within walk k = within-more (length (take k walk)) (length walk) (prefix 
     shorter : length (take k walk) ≡ min k (length walk) → length (take k walk) ≤ length walk
     shorter e = omega (arith, e)
 
-In-slice_get : {A B : Type 0} (f : A → B) (x : A) (xs : List A) → In x xs → (k : ℕ) × (slice_get (map f xs) k ≡ Some (f x))
-In-slice_get f x [] i = absurd i
-In-slice_get {A} {B} f x (y ∷ ys) (inl e) = (0, ap (λ (z : A). Some (f z)) (sym e))
-In-slice_get f x (y ∷ ys) (inr i) = let (k, e) = In-slice_get f x ys i in (suc k, e)
-
 module _ (R : Region) (numbers : List ℤ) (accepted : Accepted R) (lawful : AreLawful R numbers) (walk : List Side) (circuit : IsCircuit R walk) where
-  difference : (u w : Corner) → IsTrue (is_step R u w) → height R numbers w ≡ height R numbers u +ℤ cond (int_lt (height R numbers w) (height R numbers u)) (negsuc (rise R.kind - 2)) (pos 1)
-  difference u w e = go (is_step-parts R u w e)
-    where
-      go : (a : Cell) × In a R.cells × In (u, w) (steps_round R.kind a)
-          → height R numbers w ≡ height R numbers u +ℤ cond (int_lt (height R numbers w) (height R numbers u)) (negsuc (rise R.kind - 2)) (pos 1)
-      go (a, i, j) = falls-by R (height R numbers) (record { modulo = lawful.modulo; least = lawful.least }) a (u, w) i j
-
   at_boundary : (v : Corner) → BeginsAt R v → Within (length walk + 3 * v.x) (height R numbers v)
   at_boundary v (s, i, from) = go (In-slice_get (λ (s : Side). s.from) s walk (boundary-walk R (Distinct-cells R accepted.placed) walk circuit s i))
     where
@@ -65,7 +54,7 @@ module _ (R : Region) (numbers : List ℤ) (accepted : Accepted R) (lawful : Are
           subst (λ (z : ℤ). Within (length walk + 3 * v.x) z) (sym value) (within-more (length walk) (length walk + 3 * v.x) (prefix walk k) (omega arith) (prefix-within walk k))
 
   -- from the left neighbour
-  after_left : (k : Kind) (l x x' : ℕ) (y z : ℤ) (t : Bool) → x' + left_gap k ≡ x → Within (l + 3 * x') z
+  after_left : (k : Kind) (l x x' : ℕ) (y z : ℤ) (t : Bool) → x' + cell_width k ≡ x → Within (l + 3 * x') z
       → (y ≡ z +ℤ cond t (negsuc (rise k - 2)) (pos 1)) ⊎ (z ≡ y +ℤ cond t (negsuc (rise k - 2)) (pos 1)) → Within (l + 3 * x) y
   after_left Square l x x' y z true g p (inl e) = (omega (arith, ints, g, p.0, p.1, e), omega (arith, ints, g, p.0, p.1, e))
   after_left Square l x x' y z true g p (inr e) = (omega (arith, ints, g, p.0, p.1, e), omega (arith, ints, g, p.0, p.1, e))
@@ -76,11 +65,11 @@ module _ (R : Region) (numbers : List ℤ) (accepted : Accepted R) (lawful : Are
   after_left Triangle l x x' y z false g p (inl e) = (omega (arith, ints, g, p.0, p.1, e), omega (arith, ints, g, p.0, p.1, e))
   after_left Triangle l x x' y z false g p (inr e) = (omega (arith, ints, g, p.0, p.1, e), omega (arith, ints, g, p.0, p.1, e))
 
-  earlier : (k : Kind) (x x' n : ℕ) → x' + left_gap k ≡ x → x ≤ suc n → x' ≤ n
+  earlier : (k : Kind) (x x' n : ℕ) → x' + cell_width k ≡ x → x ≤ suc n → x' ≤ n
   earlier Square x x' n g h = omega (arith, g, h)
   earlier Triangle x x' n g h = omega (arith, g, h)
 
-  none-left : (k : Kind) (x x' : ℕ) → x' + left_gap k ≡ x → x ≤ 0 → ⊥
+  none-left : (k : Kind) (x x' : ℕ) → x' + cell_width k ≡ x → x ≤ 0 → ⊥
   none-left Square x x' g h = omega (arith, g, h)
   none-left Triangle x x' g h = omega (arith, g, h)
 
@@ -88,8 +77,8 @@ module _ (R : Region) (numbers : List ℤ) (accepted : Accepted R) (lawful : Are
   from_left v w left p = go left.joined
     where
       go : (is_step R w v ≡ true) ⊎ (is_step R v w ≡ true) → Within (length walk + 3 * v.x) (height R numbers v)
-      go (inl e) = after_left R.kind (length walk) v.x w.x (height R numbers v) (height R numbers w) _ left.column p (inl (difference w v e))
-      go (inr e) = after_left R.kind (length walk) v.x w.x (height R numbers v) (height R numbers w) _ left.column p (inr (difference v w e))
+      go (inl e) = after_left R.kind (length walk) v.x w.x (height R numbers v) (height R numbers w) _ left.column p (inl (step-value R numbers lawful w v e))
+      go (inr e) = after_left R.kind (length walk) v.x w.x (height R numbers v) (height R numbers w) _ left.column p (inr (step-value R numbers lawful v w e))
 
   within : (n : ℕ) (v : Corner) → v.x ≤ n → is_corner_of R v ≡ true → Within (length walk + 3 * v.x) (height R numbers v)
   within zero v h e = go (inner-or-boundary R v e)

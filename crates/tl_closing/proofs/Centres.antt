@@ -5,10 +5,10 @@ use Rattle.tl_definitions.specs.declared.Kind.TheVariants.{Square, Triangle}
 use Rattle.tl_definitions.specs.declared.Cell.{Cell}
 use Rattle.tl_definitions.specs.declared.Corner.{Corner}
 use Rattle.tl_definitions.specs.Lattice.{is_dark}
-use Rattle.tl_definitions.proofs.Sublists.{In, Each, Each-at}
+use Rattle.tl_lists.proofs.Members.{In, Each, Each-at}
 use Rattle.tl_definitions.proofs.Corners.{corner-same}
 use Rattle.tl_closing.specs.Closing.{steps_round}
-use Rattle.tl_closing.proofs.Members.{Distinct}
+use Rattle.tl_lists.proofs.Distinct.{Distinct}
 use Rattle.tl_closing.proofs.Sides.{left_step, other_steps, left_here, others_here, steps-table, SameStep, same_step}
 
 -- The centre of a cell is the middle of each step round it, moved by half a cell to the left where the cell is dark

@@ -1,36 +1,28 @@
 -- Lawful heights stay lawful where they are raised at an inner corner to which all steps fall, or lowered at one from
 -- which all steps fall.
-use Rattle.std.proofs.Common.{◌≡◌, ℕ, ◌-◌, Bool, true, false, List, cond, Some, refl, sym, ◌∙◌, ap, subst, arith, ℤ, pos, negsuc, ◌+ℤ◌, ◌*ℤ◌, ◌≤ℤ◌, int_lt}
+use Rattle.std.proofs.Common.{◌≡◌, ℕ, ◌-◌, Bool, true, false, List, Some, refl, sym, ◌∙◌, ap, subst, arith, ℤ, pos, negsuc, ◌+ℤ◌, ◌*ℤ◌, ◌≤ℤ◌, int_lt}
 use Rattle.std.specs.Prelude.{slice_get, IsTrue}
 use Rattle.std.proofs.lemmas.Int.{ints}
 use Rattle.std.proofs.lemmas.Bool.{false_from_ne_true}
 use Rattle.tl_definitions.specs.declared.Kind.{Kind}
 use Rattle.tl_definitions.specs.declared.Kind.TheVariants.{Square, Triangle}
-use Rattle.tl_definitions.specs.declared.Cell.{Cell}
 use Rattle.tl_definitions.specs.declared.Corner.{Corner}
-use Rattle.tl_definitions.specs.Lattice.{corner_eq, steps_out, Side}
-use Rattle.tl_definitions.specs.Region.{Region, present, boundary, is_corner_of, is_inner}
+use Rattle.tl_definitions.specs.Lattice.{corner_eq, steps_out, Side, rise, steps_in}
+use Rattle.tl_definitions.specs.Region.{Region, boundary, is_corner_of, is_inner, is_step}
+use Rattle.tl_lists.specs.Lists.{present}
 use Rattle.tl_definitions.specs.Accepted.{Accepted, IsCircuit, circuit_corners}
-use Rattle.tl_definitions.specs.Obstruction.{is_step, prefix}
-use Rattle.tl_definitions.specs.Heights.{rise, height, AreLawful}
-use Rattle.tl_definitions.proofs.Sublists.{In, In-map_parts, slice_get-In}
-use Rattle.tl_definitions.proofs.Ordered.{In-list_all}
+use Rattle.tl_definitions.specs.Obstruction.{prefix}
+use Rattle.tl_definitions.specs.Heights.{height, AreLawful}
+use Rattle.tl_lists.proofs.Members.{In, In-map_parts, slice_get-In, In-list_all}
 use Rattle.tl_definitions.proofs.Corners.{corner_eq-same}
-use Rattle.tl_closing.specs.Closing.{steps_round}
-use Rattle.tl_closing.specs.Standing.{steps_in, falls_from, falls_to}
+use Rattle.tl_closing.specs.Standing.{falls_from, falls_to}
 use Rattle.tl_closing.specs.Changed.{IsChangedAt}
-use Rattle.tl_closing.proofs.Steps.{step-one_way}
-use Rattle.tl_closing.proofs.Edges.{Distinct-cells, round-corners, corner_of-from, is_step-parts}
+use Rattle.tl_closing.proofs.Residues.{step-one_way}
+use Rattle.tl_closing.proofs.Edges.{Distinct-cells, step-out, step-in, step-ends}
 use Rattle.tl_closing.proofs.Circuit.{walk-boundary}
-use Rattle.tl_closing.proofs.Falls.{falls-by}
+use Rattle.tl_closing.proofs.AlongSteps.{fall-value}
 use Rattle.tl_closing.proofs.Start.{boundary-corner}
-use Rattle.tl_closing.proofs.OffBoundary.{inner-off_boundary, step-out, step-in}
-
-pub step-ends : (R : Region) (u w : Corner) → IsTrue (is_step R u w) → (is_corner_of R u ≡ true) × (is_corner_of R w ≡ true)
-step-ends R u w e = go (is_step-parts R u w e)
-  where
-    go : (a : Cell) × In a R.cells × In (u, w) (steps_round R.kind a) → (is_corner_of R u ≡ true) × (is_corner_of R w ≡ true)
-    go (a, i, j) = let p = round-corners R.kind a (u, w) j in (corner_of-from R a u i p.0, corner_of-from R a w i p.1)
+use Rattle.tl_closing.proofs.Ring.{inner-off_boundary}
 
 -- from x to y by 1 modulo the rise, and by no more than 1
 abbrev IsMildRise : Kind → ℤ → ℤ → Type 0
@@ -86,22 +78,12 @@ module _ (R : Region) (numbers others : List ℤ) (v : Corner) (more : ℤ) (acc
               let off : corner_eq w v ≡ false = false_from_ne_true (corner_eq w v) (λ h. inner-off_boundary R v inner s edge (sym same ∙ corner_eq-same w v h)) in
               changed.elsewhere w of_region off ∙ lawful.boundary walk k w c e
 
--- along a step that falls the heights fall by the rise less 1
-pub fall-value : (R : Region) (numbers : List ℤ) → AreLawful R numbers → (u w : Corner) → IsTrue (is_step R u w) → int_lt (height R numbers w) (height R numbers u) ≡ true
-    → height R numbers w ≡ height R numbers u +ℤ negsuc (rise R.kind - 2)
-fall-value R numbers lawful u w e falls = go (is_step-parts R u w e)
-  where
-    go : (a : Cell) × In a R.cells × In (u, w) (steps_round R.kind a) → height R numbers w ≡ height R numbers u +ℤ negsuc (rise R.kind - 2)
-    go (a, i, j) =
-        falls-by R (height R numbers) (record { modulo = lawful.modulo; least = lawful.least }) a (u, w) i j
-        ∙ ap (λ (t : Bool). height R numbers u +ℤ cond t (negsuc (rise R.kind - 2)) (pos 1)) falls
-
 pub raised-lawful : (R : Region) (numbers others : List ℤ) (v : Corner) → Accepted R → AreLawful R numbers → IsTrue (is_inner R v)
     → IsTrue (falls_to R numbers v) → IsChangedAt R numbers others v (pos (rise R.kind)) → AreLawful R others
 raised-lawful R numbers others v accepted lawful inner low changed =
     changed-lawful R numbers others v (pos (rise R.kind)) accepted lawful inner changed
     (λ u e. up R.kind (height R numbers u) (height R numbers v)
-    (fall-value R numbers lawful u v e (In-list_all (λ u. int_lt (height R numbers v) (height R numbers u)) (steps_in R.kind v) u low (step-in R u v e))))
+    (fall-value R numbers lawful u v e (In-list_all (λ u. int_lt (height R numbers v) (height R numbers u)) (present (steps_in R.kind v)) u low (step-in R u v e))))
     (λ w e. on R.kind (height R numbers v) (height R numbers w) (lawful.modulo v w e) (lawful.least v w e))
   where
     up : (k : Kind) (x y : ℤ) → y ≡ x +ℤ negsuc (rise k - 2) → IsMildRise k x (y +ℤ pos (rise k))

@@ -9,16 +9,16 @@ use Rattle.tl_definitions.specs.declared.Cell.{Cell}
 use Rattle.tl_definitions.specs.declared.Corner.{Corner}
 use Rattle.tl_definitions.specs.Lattice.{corner, corner_eq, is_dark, Side, side, sides}
 use Rattle.tl_definitions.specs.Region.{Region, all_sides, side_eq, is_boundary, boundary}
-use Rattle.tl_definitions.specs.Accepted.{IsCircuit, circuit_corners, turned}
-use Rattle.tl_definitions.specs.Obstruction.{int_sum, sign, prefix, total}
-use Rattle.tl_definitions.proofs.Sublists.{In, Each, Each-at}
-use Rattle.tl_definitions.proofs.Ordered.{In-list_all}
+use Rattle.tl_definitions.specs.Accepted.{IsCircuit, circuit_corners}
+use Rattle.tl_lists.specs.Lists.{turned, int_sum}
+use Rattle.tl_definitions.specs.Obstruction.{sign, prefix, total}
+use Rattle.tl_lists.proofs.Members.{In, Each, Each-at, In-list_all}
 use Rattle.tl_definitions.proofs.Corners.{corner_eq-refl}
 use Rattle.tl_definitions.proofs.Walks.{side_eq-same, side_eq-refl, side-In}
 use Rattle.tl_closing.specs.Closing.{step_along}
-use Rattle.tl_closing.proofs.Members.{Distinct, Distinct-filter, Distinct-flat_map}
+use Rattle.tl_lists.proofs.Distinct.{Distinct, Distinct-filter, Distinct-flat_map, Distinct-unmap, Distinct-from}
 use Rattle.tl_closing.proofs.Centres.{round-once}
-use Rattle.tl_closing.proofs.Sums.{Distinct-unmap, Distinct-from, sum-members, sum-turned}
+use Rattle.tl_lists.proofs.Sums.{sum-members, sum-turned}
 
 -- ---- sides
 

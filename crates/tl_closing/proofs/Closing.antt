@@ -4,19 +4,17 @@ use Rattle.std.specs.Prelude.{IsTrue}
 use Rattle.std.proofs.lemmas.Int.{ints}
 use Rattle.tl_definitions.specs.declared.Cell.{Cell}
 use Rattle.tl_definitions.specs.declared.Corner.{Corner}
-use Rattle.tl_definitions.specs.Lattice.{corner_eq, are_neighbours, is_dark, corners}
-use Rattle.tl_definitions.specs.Region.{Region, has, corner_places, is_corner_of}
+use Rattle.tl_definitions.specs.Lattice.{corner_eq, are_neighbours, is_dark, corners, rise}
+use Rattle.tl_definitions.specs.Region.{Region, has, corner_places, is_corner_of, is_step}
 use Rattle.tl_definitions.specs.Accepted.{Accepted, AreJoined, IsPlaced, HasEulerOne}
-use Rattle.tl_definitions.specs.Obstruction.{int_sum, is_step}
-use Rattle.tl_definitions.specs.Heights.{rise}
+use Rattle.tl_lists.specs.Lists.{int_sum}
 use Rattle.tl_definitions.proofs.Joined.{joined_hands_on}
-use Rattle.tl_definitions.proofs.Sublists.{In, Each, Each-at, In-map_parts}
-use Rattle.tl_definitions.proofs.Ordered.{In-filter_parts}
+use Rattle.tl_lists.proofs.Members.{In, Each, Each-at, In-map_parts, In-filter_parts, Each-from}
 use Rattle.tl_definitions.proofs.Corners.{corner_eq-same, corner_eq-refl}
 use Rattle.tl_closing.specs.Closing.{steps_round, ClosesRoundCells, IsPotential, HasOnePotential}
-use Rattle.tl_closing.proofs.Members.{Each-from}
 use Rattle.tl_closing.proofs.Merge.{merged}
-use Rattle.tl_closing.proofs.Steps.{step-move, residue, residue-move}
+use Rattle.tl_definitions.proofs.Steps.{step-move}
+use Rattle.tl_closing.proofs.Residues.{residue, residue-move}
 use Rattle.tl_closing.proofs.Sides.{left_here, others_here, corners-table, steps-table, others-later, SameStep, same_step}
 use Rattle.tl_closing.proofs.Shared.{neighbours-share, Share}
 use Rattle.tl_closing.proofs.Edges.{round-step, round-corners, Step, vertices, tree_part, left_steps, has-In, In-has, corner_of-parts, is_step-parts, is_step-from, cell-within, Distinct-vertices, In-tree_part, length-tree_part}
@@ -29,7 +27,7 @@ Round P R a = Each P (left_here R.kind a ∷ others_here R.kind a)
 round-at : (P : Step → Type 0) (R : Region) (a : Cell) (e : Step) → Round P R a → In e (steps_round R.kind a) → P e
 round-at P R a e h i = Each-at P e (left_here R.kind a ∷ others_here R.kind a) h (subst (λ (es : List Step). In e es) (steps-table R.kind a) i)
 
-round-from : (P : Step → Type 0) (R : Region) (a : Cell) → ((e : Step) → In e (steps_round R.kind a) → P e) → Round P R a
+pub round-from : (P : Step → Type 0) (R : Region) (a : Cell) → ((e : Step) → In e (steps_round R.kind a) → P e) → Round P R a
 round-from P R a f =
     Each-from P (left_here R.kind a ∷ others_here R.kind a) (λ e i. f e (subst (λ (es : List Step). In e es) (sym (steps-table R.kind a)) i))
 

@@ -1,25 +1,24 @@
 -- The total by colours. The signs of all sides of the cells add up to it, as the two sides of an edge between two
 -- cells of the region have opposite signs.
-use Rattle.std.proofs.Common.{◌≡◌, inl, inr, Bool, true, false, not, List, [], ◌∷◌, ◌++◌, map, filter, flat_map, length, cond, refl, sym, ◌∙◌, ap, subst, arith, ◌+◌, ◌-◌, ℤ, pos, negsuc, ◌+ℤ◌, ◌-ℤ◌, ◌*ℤ◌}
+use Rattle.std.proofs.Common.{◌≡◌, Bool, true, false, not, List, [], ◌∷◌, ◌++◌, map, filter, flat_map, length, cond, refl, sym, ◌∙◌, ap, subst, arith, ◌+◌, ◌-◌, ℤ, pos, negsuc, ◌+ℤ◌, ◌-ℤ◌, ◌*ℤ◌}
 use Rattle.std.proofs.lemmas.Int.{ints}
 use Rattle.std.proofs.lemmas.Bool.{not-true}
 use Rattle.tl_definitions.specs.declared.Kind.{Kind}
 use Rattle.tl_definitions.specs.declared.Kind.TheVariants.{Square, Triangle}
 use Rattle.tl_definitions.specs.declared.Cell.{Cell}
-use Rattle.tl_definitions.specs.Lattice.{corner, is_dark, Side, side, sides}
+use Rattle.tl_definitions.specs.Lattice.{corner, is_dark, Side, side, sides, rise}
 use Rattle.tl_definitions.specs.Region.{Region, all_sides, is_boundary}
 use Rattle.tl_definitions.specs.Accepted.{IsPlaced, IsCircuit}
-use Rattle.tl_definitions.specs.Obstruction.{int_sum, sign, total}
-use Rattle.tl_definitions.specs.Heights.{rise}
-use Rattle.tl_definitions.proofs.Sublists.{In, In-map, In-filter, In-flat_map, In-flat_map_parts, In-map_parts}
-use Rattle.tl_definitions.proofs.Ordered.{In-filter_parts}
+use Rattle.tl_definitions.specs.Obstruction.{sign, total}
+use Rattle.tl_lists.specs.Lists.{int_sum}
+use Rattle.tl_lists.proofs.Members.{In, In-map, In-filter, In-flat_map, In-flat_map_parts, In-map_parts, In-filter_parts}
 use Rattle.tl_closing.specs.Closing.{step_along, steps_round}
 use Rattle.tl_closing.specs.Colours.{dark_count, light_count}
-use Rattle.tl_closing.proofs.Members.{Distinct, Distinct-filter}
+use Rattle.tl_lists.proofs.Distinct.{Distinct, Distinct-filter, Distinct-map_in}
 use Rattle.tl_closing.proofs.Sides.{directed}
 use Rattle.tl_closing.proofs.Centres.{cell-one}
 use Rattle.tl_closing.proofs.Edges.{Step, step_eq, step_eq-same, step_eq-refl, Distinct-cells}
-use Rattle.tl_closing.proofs.Sums.{sum-members}
+use Rattle.tl_lists.proofs.Sums.{sum-members}
 use Rattle.tl_closing.proofs.Circuit.{side-cell, Distinct-all_sides, total-walk}
 use Rattle.tl_closing.proofs.Boundary.{boundary-one, inside-two}
 
@@ -108,13 +107,6 @@ sum-parts p (s ∷ ss) = go (p s) (sign s) (sum-parts p ss)
         ≡ int_sum (map sign (cond t (s ∷ filter p ss) (filter p ss))) +ℤ int_sum (map sign (cond (not t) (s ∷ filter (λ s. not (p s)) ss) (filter (λ s. not (p s)) ss)))
     go true x ih = omega (arith, ints, ih)
     go false x ih = omega (arith, ints, ih)
-
-Distinct-map_in : {A B : Type 0} (f : A → B) (xs : List A) → ((x y : A) → In x xs → In y xs → f x ≡ f y → x ≡ y) → Distinct xs → Distinct (map f xs)
-Distinct-map_in f [] same d = tt
-Distinct-map_in {A} {B} f (x ∷ xs) same d = (λ i. none (In-map_parts f (f x) xs i), Distinct-map_in f xs (λ y z i j. same y z (inr i) (inr j)) d.1)
-  where
-    none : (y : A) × In y xs × (f x ≡ f y) → ⊥
-    none (y, j, e) = d.0 (subst (λ z. In z xs) (sym (same x y (inl refl) (inr j) e)) j)
 
 -- ---- inside the region
 

@@ -10,18 +10,20 @@ use Rattle.tl_definitions.specs.declared.Kind.TheVariants.{Square, Triangle}
 use Rattle.tl_definitions.specs.declared.Cell.{Cell}
 use Rattle.tl_definitions.specs.declared.Corner.{Corner}
 use Rattle.tl_definitions.specs.declared.Tile.{Tile}
-use Rattle.tl_definitions.specs.Lattice.{cell_eq, cell_lt, is_dark, Side, sides}
-use Rattle.tl_definitions.specs.Region.{Region, joins_corners, is_corner_of}
+use Rattle.tl_definitions.specs.Lattice.{cell_eq, cell_lt, is_dark, Side, sides, rise}
+use Rattle.tl_definitions.specs.Region.{Region, joins_corners, is_corner_of, is_step}
 use Rattle.tl_definitions.specs.Tiling.{tile_lt, covers, is_tiling}
-use Rattle.tl_definitions.specs.Obstruction.{int_sum, is_step}
-use Rattle.tl_definitions.specs.Heights.{rise, has_edge, crosses, climb}
-use Rattle.tl_definitions.proofs.Regions.{cell_eq-same}
-use Rattle.tl_definitions.proofs.Sublists.{In, In-map, cell_eq-refl, cell_lt-irreflexive, cell_lt-transitive, tile_lt-irreflexive, tile_lt-transitive, In-any_of, any-In, In-map_parts}
-use Rattle.tl_definitions.proofs.Ordered.{linked-same, Only}
+use Rattle.tl_lists.specs.Lists.{int_sum}
+use Rattle.tl_definitions.specs.Heights.{has_edge, crosses, climb}
+use Rattle.tl_definitions.proofs.Cells.{cell_eq-same, cell_eq-refl, cell_lt-irreflexive, cell_lt-transitive}
+use Rattle.tl_definitions.proofs.Tiles.{tile_lt-irreflexive, tile_lt-transitive}
+use Rattle.tl_lists.proofs.Members.{In, In-map, In-any_of, any-In, In-map_parts}
+use Rattle.tl_lists.proofs.Orders.{linked-same}
+use Rattle.tl_lists.proofs.Counts.{Only, count, count_some, count_one}
 use Rattle.tl_definitions.proofs.Tilings.{TileParts, TilingParts, tiling-parts}
 use Rattle.tl_closing.specs.Closing.{step_along, steps_round, sum_round, ClosesRoundCells}
-use Rattle.tl_closing.proofs.Members.{count, count_some, count_one}
-use Rattle.tl_closing.proofs.Steps.{IsStepOut, step-one_way}
+use Rattle.tl_definitions.proofs.Steps.{IsStepOut}
+use Rattle.tl_closing.proofs.Residues.{step-one_way}
 use Rattle.tl_closing.proofs.Sides.{steps-table, left_step, other_steps}
 use Rattle.tl_closing.proofs.Shared.{neighbours-share, Share}
 use Rattle.tl_closing.proofs.Centres.{step-one, cell-two, round-once}

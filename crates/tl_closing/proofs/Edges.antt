@@ -1,6 +1,6 @@
 -- The corners and the edges of a region as lists: who stands in them, and how many.
 use Rattle.std.proofs.Common.{◌≡◌, ℕ, ◌+◌, ◌<◌, ◌≤◌, ◌⊎◌, inl, inr, Bool, true, false, ◌&&◌, List, [], ◌∷◌, map, length, filter, flat_map, refl, sym, ◌∙◌, ap, subst, arith}
-use Rattle.std.specs.Prelude.{nat_lt}
+use Rattle.std.specs.Prelude.{nat_lt, IsTrue}
 use Rattle.std.specs.List.{list_any}
 use Rattle.std.proofs.lemmas.Bool.{and_parts, and_from, or_cases, or_left, or_right, ltb-true}
 use Rattle.std.proofs.lemmas.List.{length-append, length-map}
@@ -8,16 +8,17 @@ use Rattle.tl_definitions.specs.declared.Kind.{Kind}
 use Rattle.tl_definitions.specs.declared.Cell.{Cell}
 use Rattle.tl_definitions.specs.declared.Corner.{Corner}
 use Rattle.tl_definitions.specs.Lattice.{cell, corner, cell_eq, corner_eq, is_corner, is_dark, corners, steps_out, Side, sides}
-use Rattle.tl_definitions.specs.Region.{Region, has, present, places, upto, corner_places, all_sides, joins_corners, is_edge, is_corner_of, steps}
+use Rattle.tl_definitions.specs.Region.{Region, has, places, corner_places, all_sides, joins_corners, is_edge, is_corner_of, steps, is_step}
+use Rattle.tl_lists.specs.Lists.{present, upto}
 use Rattle.tl_definitions.specs.Accepted.{IsPlaced, HasEulerOne, edge_count, cell_count}
-use Rattle.tl_definitions.specs.Obstruction.{is_step}
 use Rattle.tl_definitions.proofs.Regions.{any-filter-places}
-use Rattle.tl_definitions.proofs.Sublists.{In, In-any, In-filter, In-flat_map, In-map, cell_eq-refl, Each-at, In-any_of, any-In, In-flat_map_parts, In-map_parts, In-range}
-use Rattle.tl_definitions.proofs.Ordered.{In-filter_parts}
+use Rattle.tl_definitions.proofs.Cells.{In-any, cell_eq-refl}
+use Rattle.tl_lists.proofs.Members.{In, In-filter, In-flat_map, In-map, Each-at, In-any_of, any-In, In-flat_map_parts, In-map_parts, In-range, In-filter_parts}
 use Rattle.tl_definitions.proofs.Corners.{corner_eq-same, corner_eq-refl}
 use Rattle.tl_closing.specs.Closing.{step_along, steps_round}
-use Rattle.tl_closing.proofs.Members.{Distinct, Distinct-filter, Distinct-map, Distinct-flat_map, Distinct-range, without, In-without, length-without}
-use Rattle.tl_closing.proofs.Steps.{IsStepOut, step-one_way}
+use Rattle.tl_lists.proofs.Distinct.{Distinct, Distinct-filter, Distinct-map, Distinct-flat_map, Distinct-range, without, In-without, length-without}
+use Rattle.tl_definitions.proofs.Steps.{IsStepOut, IsStepIn, step-move, move-step_in}
+use Rattle.tl_closing.proofs.Residues.{step-one_way}
 use Rattle.tl_closing.proofs.Sides.{parity-of, directed, corners-table, steps-table, left_here, others_here, corner_table, steps-out, steps-corners, corners-near, IsNear, Joins, left-one, same_step}
 
 abbrev pub Step : Type 0
@@ -139,6 +140,22 @@ step-In R a e i j = go (In-map_parts step_along e (sides R.kind a) j)
 
 pub is_step-from : (R : Region) (a : Cell) (u v : Corner) → In a R.cells → In (u, v) (steps_round R.kind a) → is_step R u v ≡ true
 is_step-from R a u v i j = In-any_of (corner_eq v) v (steps R u) (step-In R a (u, v) i j) (corner_eq-refl v)
+
+-- the ends of a step are corners of the region, and each has the step in its list
+pub step-ends : (R : Region) (u w : Corner) → IsTrue (is_step R u w) → (is_corner_of R u ≡ true) × (is_corner_of R w ≡ true)
+step-ends R u w e = go (is_step-parts R u w e)
+  where
+    go : (a : Cell) × In a R.cells × In (u, w) (steps_round R.kind a) → (is_corner_of R u ≡ true) × (is_corner_of R w ≡ true)
+    go (a, i, j) = let p = round-corners R.kind a (u, w) j in (corner_of-from R a u i p.0, corner_of-from R a w i p.1)
+
+pub step-out : (R : Region) (u v : Corner) → IsTrue (is_step R u v) → IsStepOut R.kind u v
+step-out R u v e = go (is_step-parts R u v e)
+  where
+    go : (a : Cell) × In a R.cells × In (u, v) (steps_round R.kind a) → IsStepOut R.kind u v
+    go (a, i, j) = round-step R.kind a (u, v) j
+
+pub step-in : (R : Region) (u v : Corner) → IsTrue (is_step R u v) → IsStepIn R.kind u v
+step-in R u v e = move-step_in R.kind u v (step-move R.kind u v (step-out R u v e))
 
 -- ---- the lists
 

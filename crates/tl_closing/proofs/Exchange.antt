@@ -11,8 +11,11 @@ use Rattle.tl_definitions.specs.Region.{Region}
 use Rattle.tl_definitions.specs.Accepted.{IsPlaced}
 use Rattle.tl_definitions.specs.Tiling.{tile_eq, tile_lt, is_tile, is_in, tiles, covers}
 use Rattle.tl_definitions.specs.Flip.{exchange}
-use Rattle.tl_definitions.proofs.Sublists.{In, In-filter, In-tiles, cell_eq-refl, tile_lt-irreflexive, tile_lt-transitive, In-any_of, any-In}
-use Rattle.tl_definitions.proofs.Ordered.{In-list_all, In-filter_parts, linked-filter, linked-same, Only}
+use Rattle.tl_definitions.proofs.Tiles.{In-tiles, tile_lt-irreflexive, tile_lt-transitive}
+use Rattle.tl_definitions.proofs.Cells.{cell_eq-refl}
+use Rattle.tl_lists.proofs.Members.{In, In-filter, In-any_of, any-In, In-list_all, In-filter_parts}
+use Rattle.tl_lists.proofs.Orders.{linked-filter, linked-same}
+use Rattle.tl_lists.proofs.Counts.{Only}
 use Rattle.tl_definitions.proofs.Corners.{corner_eq-same, corner_eq-refl}
 use Rattle.tl_definitions.proofs.Tilings.{TileParts, TilingParts, tile_eq-same}
 use Rattle.tl_closing.specs.Closing.{steps_round}
@@ -22,13 +25,13 @@ use Rattle.tl_closing.proofs.Crossed.{tile-step, is_crossed, covers-from}
 use Rattle.tl_closing.proofs.Standing.{tile-crossed}
 use Rattle.tl_closing.proofs.TilesInOrder.{tiles-linked}
 
-is_in-In : (A : List Tile) (t : Tile) → is_in A t ≡ true → In t A
+pub is_in-In : (A : List Tile) (t : Tile) → is_in A t ≡ true → In t A
 is_in-In A t e = go (any-In (tile_eq t) A e)
   where
     go : (s : Tile) × In s A × (tile_eq t s ≡ true) → In t A
     go (s, i, h) = subst (λ (x : Tile). In x A) (sym (tile_eq-same t s h)) i
 
-In-is_in : (A : List Tile) (t : Tile) → In t A → is_in A t ≡ true
+pub In-is_in : (A : List Tile) (t : Tile) → In t A → is_in A t ≡ true
 In-is_in A t i = In-any_of (tile_eq t) t A i (and_from _ _ (cell_eq-refl t.first) (cell_eq-refl t.second))
 
 -- a tile is in a tiling where its step is crossed

@@ -7,14 +7,12 @@ use Rattle.tl_definitions.specs.declared.Kind.{Kind}
 use Rattle.tl_definitions.specs.declared.Kind.TheVariants.{Square, Triangle}
 use Rattle.tl_definitions.specs.declared.Cell.{Cell}
 use Rattle.tl_definitions.specs.declared.Corner.{Corner}
-use Rattle.tl_definitions.specs.Lattice.{is_dark}
-use Rattle.tl_definitions.specs.Region.{Region}
-use Rattle.tl_definitions.specs.Obstruction.{int_sum, is_step}
-use Rattle.tl_definitions.specs.Heights.{rise}
-use Rattle.tl_definitions.proofs.Sublists.{In, Each, Each-at}
-use Rattle.tl_definitions.proofs.Ordered.{count_by-passes, count_by-fails, Only, only-count_by}
+use Rattle.tl_definitions.specs.Lattice.{is_dark, rise}
+use Rattle.tl_definitions.specs.Region.{Region, is_step}
+use Rattle.tl_lists.specs.Lists.{int_sum}
+use Rattle.tl_lists.proofs.Members.{In, Each, Each-at, Each-from}
+use Rattle.tl_lists.proofs.Counts.{count_by-passes, count_by-fails, Only, only-count_by, count}
 use Rattle.tl_closing.specs.Closing.{steps_round}
-use Rattle.tl_closing.proofs.Members.{Each-from, count}
 use Rattle.tl_closing.proofs.Sides.{left_step, other_steps, left_here, others_here, steps-table}
 use Rattle.tl_closing.proofs.Edges.{Step, is_step-from}
 use Rattle.tl_closing.proofs.Round.{Rises, sum-rises}

@@ -16,28 +16,31 @@ use Rattle.tl_definitions.specs.declared.Kind.TheVariants.{Square, Triangle}
 use Rattle.tl_definitions.specs.declared.Cell.{Cell}
 use Rattle.tl_definitions.specs.declared.Corner.{Corner}
 use Rattle.tl_definitions.specs.declared.Tile.{Tile}
-use Rattle.tl_definitions.specs.Lattice.{cell, corner, cell_eq, corner_eq, is_cell, is_corner, is_dark, Side, side, sides}
+use Rattle.tl_definitions.specs.Lattice.{cell, corner, cell_eq, corner_eq, is_cell, is_corner, is_dark, Side, side, sides, rise, cell_width}
 use Rattle.tl_definitions.specs.Region.{Region, has, places, is_inner, is_corner_of}
 use Rattle.tl_definitions.specs.Accepted.{Accepted, IsCircuit, IsPlaced, circuit_corners, cell_count}
 use Rattle.tl_definitions.specs.Tiling.{covers, is_tiling, other_cell, partner}
-use Rattle.tl_definitions.specs.Darts.{cell_width}
 use Rattle.tl_definitions.specs.Obstruction.{prefix}
-use Rattle.tl_definitions.specs.Heights.{rise, height, height_count, AreHeights, AreHeightsOf}
-use Rattle.tl_definitions.proofs.Regions.{cell_eq-same, same_test, cell-same, length-places}
-use Rattle.tl_definitions.proofs.Sublists.{In, In-map, cell_eq-refl, In-any_of}
-use Rattle.tl_definitions.proofs.Ordered.{Only, find-only}
-use Rattle.tl_definitions.proofs.Corners.{corner_eq-refl}
+use Rattle.tl_definitions.specs.Heights.{height, height_count, AreHeights, AreHeightsOf}
+use Rattle.tl_definitions.proofs.Regions.{length-places}
+use Rattle.tl_definitions.proofs.Cells.{cell_eq-same, cell-same, cell_eq-refl}
+use Rattle.tl_lists.proofs.Tests.{same_test}
+use Rattle.tl_lists.proofs.Members.{In, In-map}
+use Rattle.tl_lists.proofs.Counts.{Only}
+use Rattle.tl_lists.proofs.Searches.{find-only}
 use Rattle.tl_definitions.proofs.Tilings.{TilingParts, tiling-parts}
 use Rattle.tl_closing.specs.Closing.{step_along, steps_round}
 use Rattle.tl_closing.proofs.Sides.{directed, dark-from, light-from}
 use Rattle.tl_closing.proofs.Centres.{cell-two}
-use Rattle.tl_closing.proofs.Edges.{Step, In-has, Distinct-cells, round-step, is_step-from}
-use Rattle.tl_closing.proofs.Circuit.{boundary-walk}
+use Rattle.tl_closing.proofs.Edges.{Step, In-has, round-step, is_step-from}
 use Rattle.tl_closing.proofs.Crossed.{covers-cases, covers-from, IsAcross, is_crossed, crossed-from, crossed-parts}
 use Rattle.tl_closing.proofs.Heights.{heights-lawful}
 use Rattle.tl_closing.proofs.Standing.{side_ends}
-use Rattle.tl_closing.proofs.Ring.{BeginsAt, HasBack, HasRing, inner-or-boundary, inner-ring, among-up, among-down}
+use Rattle.tl_closing.proofs.OnCircuit.{on_circuit-inner}
+use Rattle.tl_closing.proofs.Ring.{HasBack, HasRing, inner-ring, among-up, among-down}
 use Rattle.tl_closing.proofs.Bounds.{Within, heights-small}
+use Rattle.tl_definitions.specs.declared.TheConstants.{SIDE_LIMIT}
+use Rattle.tl_definitions.specs.Limits.{most_cells}
 
 -- ---- places
 
@@ -278,29 +281,25 @@ module _ (R : Region) (A : List Tile) (numbers : List ℤ) (accepted : Accepted 
       → IsFalse (list_any (corner_eq v) (circuit_corners walk)) → height R numbers v ≡ pos 0
   fill-nothing walk v circuit column not_inner off = go (is_corner_of R v) refl
     where
-      of_cell : BeginsAt R v ⊎ (is_inner R v ≡ true) → height R numbers v ≡ pos 0
-      of_cell (inl (s, i, from)) =
-          let on : list_any (corner_eq v) (circuit_corners walk) ≡ true =
-          In-any_of (corner_eq v) s.from (circuit_corners walk)
-          (In-map (λ (s : Side). s.from) s walk (boundary-walk R (Distinct-cells R accepted.placed) walk circuit s i))
-          (subst (λ (u : Corner). corner_eq v u ≡ true) (sym from) (corner_eq-refl v)) in
-          cc (on, off)
-      of_cell (inr inner) = cc (inner, not_inner)
+      of_corner : is_corner_of R v ≡ true → height R numbers v ≡ pos 0
+      of_corner e =
+          let on : false ≡ not (is_inner R v) = sym off ∙ on_circuit-inner R accepted.placed walk circuit v e in
+          cc (on, ap not not_inner)
 
       go : (t : Bool) → is_corner_of R v ≡ t → height R numbers v ≡ pos 0
-      go true e = of_cell (inner-or-boundary R v e)
+      go true e = of_corner e
       go false e = h.heights.elsewhere v column e
 
   -- ---- how large the numbers are
 
-  pub fill-range : R.rows ≤ 512 → R.columns ≤ 512 → (v : Corner) → v.x < R.columns + 2
+  pub fill-range : R.rows ≤ SIDE_LIMIT → R.columns ≤ SIDE_LIMIT → (v : Corner) → v.x < R.columns + 2
       → (negsuc (2 ^ 31 - 1) ≤ℤ height R numbers v) × (height R numbers v ≤ℤ pos (2 ^ 31 - 1))
   fill-range rows columns v column = go (is_corner_of R v) refl
     where
-      near : (z : ℤ) (n x : ℕ) → Within (4 * n + 3 * x) z → n ≤ 512 * 512 → x < R.columns + 2 → (negsuc (2 ^ 31 - 1) ≤ℤ z) × (z ≤ℤ pos (2 ^ 31 - 1))
+      near : (z : ℤ) (n x : ℕ) → Within (4 * n + 3 * x) z → n ≤ most_cells → x < R.columns + 2 → (negsuc (2 ^ 31 - 1) ≤ℤ z) × (z ≤ℤ pos (2 ^ 31 - 1))
       near z n x p few l = (omega (arith, ints, p.0, p.1, few, l, columns), omega (arith, ints, p.0, p.1, few, l, columns))
 
-      few : cell_count R ≤ 512 * 512
+      few : cell_count R ≤ most_cells
       few = let least : cell_count R ≤ R.rows * R.columns = cells-few R accepted.placed in omega (arith, least, mul-le-mul rows columns)
 
       zero_near : (z : ℤ) → z ≡ pos 0 → (negsuc (2 ^ 31 - 1) ≤ℤ z) × (z ≤ℤ pos (2 ^ 31 - 1))

@@ -10,31 +10,31 @@ use Rattle.tl_definitions.specs.declared.Kind.TheVariants.{Square, Triangle}
 use Rattle.tl_definitions.specs.declared.Cell.{Cell}
 use Rattle.tl_definitions.specs.declared.Corner.{Corner}
 use Rattle.tl_definitions.specs.declared.Tile.{Tile}
-use Rattle.tl_definitions.specs.Lattice.{corner, corner_eq, is_corner, is_dark, corners, steps_out}
-use Rattle.tl_definitions.specs.Region.{Region, present, is_inner}
+use Rattle.tl_definitions.specs.Lattice.{corner, corner_eq, is_corner, is_dark, corners, steps_out, rise, steps_in}
+use Rattle.tl_definitions.specs.Region.{Region, is_inner, is_step}
+use Rattle.tl_lists.specs.Lists.{present}
 use Rattle.tl_definitions.specs.Accepted.{Accepted}
 use Rattle.tl_definitions.specs.Tiling.{is_tiling}
 use Rattle.tl_definitions.specs.Flip.{stands_high, stands_low, put_high, put_low, flip}
-use Rattle.tl_definitions.specs.Obstruction.{is_step}
-use Rattle.tl_definitions.specs.Heights.{rise, height, AreHeights, AreLawful}
-use Rattle.tl_definitions.proofs.Sublists.{In}
-use Rattle.tl_definitions.proofs.Ordered.{In-list_all}
+use Rattle.tl_definitions.specs.Heights.{height, AreHeights, AreLawful}
+use Rattle.tl_lists.proofs.Members.{In, In-list_all}
 use Rattle.tl_definitions.proofs.Tilings.{tiling-parts}
 use Rattle.tl_definitions.proofs.Corners.{corner-same}
 use Rattle.tl_closing.specs.Closing.{steps_round}
-use Rattle.tl_closing.specs.Standing.{steps_in, falls_from, falls_to}
+use Rattle.tl_closing.specs.Standing.{falls_from, falls_to}
 use Rattle.tl_closing.specs.Changed.{IsChangedAt}
 use Rattle.tl_closing.proofs.Crossed.{is_crossed, IsCrossing, one-crossed}
-use Rattle.tl_closing.proofs.Steps.{IsStepOut, step-move, step-one_way}
+use Rattle.tl_definitions.proofs.Steps.{IsStepOut, step-move, move-step_in}
+use Rattle.tl_closing.proofs.Residues.{step-one_way}
 use Rattle.tl_closing.proofs.Sides.{light-from}
-use Rattle.tl_closing.proofs.Edges.{round-step}
+use Rattle.tl_closing.proofs.Edges.{round-step, step-out, step-in, step-ends}
 use Rattle.tl_closing.proofs.Ring.{HasRing, inner-ring}
 use Rattle.tl_closing.proofs.RingTiles.{round-begins}
 use Rattle.tl_closing.proofs.Falls.{lt-true, lt-false}
 use Rattle.tl_closing.proofs.Heights.{heights-lawful, has-tiling}
 use Rattle.tl_closing.proofs.Standing.{crossed-told, standing-crossed, standing-heights}
-use Rattle.tl_closing.proofs.OffBoundary.{move-in, step-out, step-in}
-use Rattle.tl_closing.proofs.Changed.{fall-value, step-ends, raised-lawful, lowered-lawful}
+use Rattle.tl_closing.proofs.AlongSteps.{fall-value}
+use Rattle.tl_closing.proofs.Changed.{raised-lawful, lowered-lawful}
 use Rattle.tl_closing.proofs.Flips.{apart, apart-back, is-put_high, is-put_low}
 
 lt-from : (x y : ℤ) → (x ≤ℤ y → ⊥) → int_lt y x ≡ true
@@ -82,7 +82,7 @@ module _ (R : Region) (A : List Tile) (numbers others : List ℤ) (v : Corner) (
               let off : corner_eq u v ≡ false = apart R A B numbers others v (pos (rise R.kind)) accepted tiling b heights q inner changed u v e in
               let there : height R others u ≡ height R numbers u = changed.elsewhere u (step-ends R u v e).0 off in
               let fall : height R numbers v ≡ height R numbers u +ℤ negsuc (rise R.kind - 2) =
-              fall-value R numbers lawful u v e (In-list_all (λ u. int_lt (height R numbers v) (height R numbers u)) (steps_in R.kind v) u falls (step-in R u v e)) in
+              fall-value R numbers lawful u v e (In-list_all (λ u. int_lt (height R numbers v) (height R numbers u)) (present (steps_in R.kind v)) u falls (step-in R u v e)) in
               crossed-told R.kind (height R others u) (height R others v) (is_crossed R B (u, v)) (q.along u v e)
               ∙ lt-not (height R others u) (height R others v)
               (below R.kind (height R numbers u) (height R numbers v) (height R others u) (height R others v) fall changed.here there)
@@ -151,7 +151,7 @@ not-high-and-low R A v tiling high low = start (ring-cell R.kind R.cells v (and_
     outs : list_all (λ w. is_crossed R A (v, w)) (present (steps_out R.kind v)) ≡ true
     outs = sym (standing-crossed R A v tiling inner).0 ∙ high
 
-    ins : list_all (λ u. is_crossed R A (u, v)) (steps_in R.kind v) ≡ true
+    ins : list_all (λ u. is_crossed R A (u, v)) (present (steps_in R.kind v)) ≡ true
     ins = sym (standing-crossed R A v tiling inner).1 ∙ low
 
     meet : (a : Cell) → In a R.cells → (w : Corner) × In (v, w) (steps_round R.kind a) → (u : Corner) × In (u, v) (steps_round R.kind a) → ⊥
@@ -167,7 +167,7 @@ not-high-and-low R A v tiling high low = start (ring-cell R.kind R.cells v (and_
         go (e, c) =
             let first : ◌≡◌ {A = Corner × Corner} (v, w) e = c.only (v, w) j (In-list_all (λ w. is_crossed R A (v, w)) (present (steps_out R.kind v)) w outs out) in
             let second : ◌≡◌ {A = Corner × Corner} (u, v) e =
-            c.only (u, v) k (In-list_all (λ u. is_crossed R A (u, v)) (steps_in R.kind v) u ins (move-in R.kind u v (step-move R.kind u v into))) in
+            c.only (u, v) k (In-list_all (λ u. is_crossed R A (u, v)) (present (steps_in R.kind v)) u ins (move-step_in R.kind u v (step-move R.kind u v into))) in
             let same : ◌≡◌ {A = Corner × Corner} (v, w) (u, v) = first ∙ sym second in
             let loop : IsStepOut R.kind v v = subst (λ (x : Corner). IsStepOut R.kind v x) (ap (λ (d : Corner × Corner). d.1) same) out in
             step-one_way R.kind v v loop loop

@@ -6,29 +6,26 @@ use Rattle.std.proofs.lemmas.Bool.{and_parts, and_from, false_from_ne_true}
 use Rattle.tl_definitions.specs.declared.Cell.{Cell}
 use Rattle.tl_definitions.specs.declared.Corner.{Corner}
 use Rattle.tl_definitions.specs.declared.Tile.{Tile}
-use Rattle.tl_definitions.specs.Lattice.{corner_eq, cell_lt, steps_out, Side, sides}
-use Rattle.tl_definitions.specs.Region.{Region, present, joins_corners, is_inner}
+use Rattle.tl_definitions.specs.Lattice.{corner_eq, cell_lt, steps_out, Side, sides, steps_in}
+use Rattle.tl_definitions.specs.Region.{Region, joins_corners, is_inner, is_step}
+use Rattle.tl_lists.specs.Lists.{present}
 use Rattle.tl_definitions.specs.Accepted.{Accepted}
 use Rattle.tl_definitions.specs.Tiling.{tile_eq, tile_of, is_in, is_tiling}
 use Rattle.tl_definitions.specs.Flip.{hi, lo, stands_high, stands_low, put_high, put_low}
-use Rattle.tl_definitions.specs.Obstruction.{is_step}
 use Rattle.tl_definitions.specs.Heights.{has_edge, height, AreHeights}
-use Rattle.tl_definitions.proofs.Regions.{same_test}
-use Rattle.tl_definitions.proofs.Sublists.{In, In-map, cell_eq-refl, any-In}
-use Rattle.tl_definitions.proofs.Ordered.{In-list_all, list_all-In}
+use Rattle.tl_lists.proofs.Tests.{same_test}
+use Rattle.tl_definitions.proofs.Cells.{cell_eq-refl}
+use Rattle.tl_lists.proofs.Members.{In, In-map, any-In, In-list_all, list_all-In}
 use Rattle.tl_definitions.proofs.Corners.{corner_eq-same, corner_eq-refl}
 use Rattle.tl_definitions.proofs.Tilings.{tile_eq-same, TileParts, TilingParts, tiling-parts}
 use Rattle.tl_closing.specs.Closing.{step_along, steps_round}
-use Rattle.tl_closing.specs.Standing.{steps_in}
 use Rattle.tl_closing.specs.Changed.{IsChangedAt}
-use Rattle.tl_closing.proofs.Steps.{step-one_way}
+use Rattle.tl_closing.proofs.Residues.{step-one_way}
 use Rattle.tl_closing.proofs.Centres.{step-one, cell-two}
-use Rattle.tl_closing.proofs.Edges.{Step, round-step, step-joins, is_step-from}
+use Rattle.tl_closing.proofs.Edges.{Step, round-step, step-joins, is_step-from, step-out, step-ends}
 use Rattle.tl_closing.proofs.Crossed.{is_crossed, edge-round, round-edge}
 use Rattle.tl_closing.proofs.Ring.{inner-ring}
 use Rattle.tl_closing.proofs.Standing.{Claims, claims, dart-out, dart-in, pair_is, crossed-told, colours-differ}
-use Rattle.tl_closing.proofs.OffBoundary.{step-out}
-use Rattle.tl_closing.proofs.Changed.{step-ends}
 use Rattle.tl_closing.proofs.RingTiles.{dart-step-out, dart-step-in, not-all, hi-covers, lo-covers}
 use Rattle.tl_closing.proofs.Exchange.{exchanged}
 
@@ -104,9 +101,9 @@ module _ (R : Region) (A : List Tile) (tiling : TilingParts R A) (v : Corner) (i
 
   pub lo-at : (t : Tile) (e : Step) → TileParts R t → In t (lo R.kind v) → In e (steps_round R.kind t.first) → In e (steps_round R.kind t.second) → (e.0 ≡ v) ⊎ (e.1 ≡ v)
   lo-at t e p i j k =
-      go (not-all (λ u. has_edge R.kind t.first u v && has_edge R.kind t.second u v) (steps_in R.kind v) (λ all. none-same t (lo R.kind v) i ((at-claims t p).1 ∙ all)))
+      go (not-all (λ u. has_edge R.kind t.first u v && has_edge R.kind t.second u v) (present (steps_in R.kind v)) (λ all. none-same t (lo R.kind v) i ((at-claims t p).1 ∙ all)))
     where
-      go : (u : Corner) × In u (steps_in R.kind v) × ((has_edge R.kind t.first u v && has_edge R.kind t.second u v) ≡ true) → (e.0 ≡ v) ⊎ (e.1 ≡ v)
+      go : (u : Corner) × In u (present (steps_in R.kind v)) × ((has_edge R.kind t.first u v && has_edge R.kind t.second u v) ≡ true) → (e.0 ≡ v) ⊎ (e.1 ≡ v)
       go (u, l, h) = elim (step-among R t p e j k u v h) [ inl same ↦ inr (ap (λ (d : Step). d.1) same) | inr same ↦ inl (ap (λ (d : Step). d.0) same) ]
 
   pub hi-at : (t : Tile) (e : Step) → TileParts R t → In t (hi R.kind v) → In e (steps_round R.kind t.first) → In e (steps_round R.kind t.second) → (e.0 ≡ v) ⊎ (e.1 ≡ v)
@@ -181,7 +178,7 @@ module _ (R : Region) (A B : List Tile) (numbers others : List ℤ) (v : Corner)
       let q = dart-step-in R v w x y g e f in
       dart-in R B parts_b v w x y g e f ∙ (into w (is_step-from R x w v g.inside q.0) ∙ sym (corner_eq-refl v)))
       (and_parts _ _ inner).0 (inner-ring R v inner)).1
-      ∙ all-yes (corner_eq v v) (steps_in R.kind v) (corner_eq-refl v)
+      ∙ all-yes (corner_eq v v) (present (steps_in R.kind v)) (corner_eq-refl v)
 
   pub is-put_high : IsTrue (stands_low R A v) → ((w : Corner) → IsTrue (is_step R v w) → is_crossed R B (v, w) ≡ true)
       → ((u : Corner) → IsTrue (is_step R u v) → is_crossed R B (u, v) ≡ false) → B ≡ put_high R A v

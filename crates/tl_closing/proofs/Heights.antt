@@ -7,13 +7,13 @@ use Rattle.tl_definitions.specs.declared.Kind.TheVariants.{Square, Triangle}
 use Rattle.tl_definitions.specs.declared.Cell.{Cell}
 use Rattle.tl_definitions.specs.declared.Corner.{Corner}
 use Rattle.tl_definitions.specs.declared.Tile.{Tile}
-use Rattle.tl_definitions.specs.Lattice.{Side}
-use Rattle.tl_definitions.specs.Region.{Region, boundary, is_corner_of}
+use Rattle.tl_definitions.specs.Lattice.{Side, rise}
+use Rattle.tl_definitions.specs.Region.{Region, boundary, is_corner_of, is_step}
 use Rattle.tl_definitions.specs.Accepted.{Accepted, IsCircuit, circuit_corners}
 use Rattle.tl_definitions.specs.Tiling.{is_tiling}
-use Rattle.tl_definitions.specs.Obstruction.{is_step, prefix, total}
-use Rattle.tl_definitions.specs.Heights.{rise, height, climb, AreHeights, AreLawful}
-use Rattle.tl_definitions.proofs.Sublists.{In}
+use Rattle.tl_definitions.specs.Obstruction.{prefix, total}
+use Rattle.tl_definitions.specs.Heights.{height, climb, AreHeights, AreLawful}
+use Rattle.tl_lists.proofs.Members.{In}
 use Rattle.tl_closing.specs.Closing.{steps_round, IsPotential, HasOnePotential}
 use Rattle.tl_closing.proofs.Edges.{Distinct-cells, is_step-parts, is_step-from, round-corners, corner_of-from}
 use Rattle.tl_closing.proofs.Closing.{accepted-closing}

@@ -1,6 +1,5 @@
-pub mod Members
 pub mod Merge
-pub mod Steps
+pub mod Residues
 pub mod Sides
 pub mod Shared
 pub mod Centres
@@ -8,19 +7,19 @@ pub mod Edges
 pub mod Round
 pub mod Closing
 pub mod Crossed
-pub mod Sums
 pub mod Circuit
 pub mod Near
 pub mod Boundary
 pub mod Falls
 pub mod Partnered
 pub mod Start
+pub mod AlongSteps
 pub mod Numbers
 pub mod Heights
 pub mod Ring
 pub mod Standing
-pub mod OffBoundary
 pub mod Changed
+pub mod InnerSteps
 pub mod Bounds
 pub mod TilesInOrder
 pub mod RingTiles
@@ -29,4 +28,5 @@ pub mod Flips
 pub mod Flipped
 pub mod Colours
 pub mod Filling
-mod Examples
+pub mod OnCircuit
+pub mod PutNumbers

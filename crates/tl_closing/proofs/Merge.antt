@@ -2,8 +2,9 @@
 use Rattle.std.proofs.Common.{◌≡◌, ◌+◌, ◌≤◌, ◌⊎◌, inl, inr, Bool, true, false, List, [], ◌∷◌, length, cond, refl, sym, ◌∙◌, ap, subst, arith, ℤ, pos, ◌+ℤ◌, ◌-ℤ◌}
 use Rattle.std.proofs.lemmas.Int.{ints}
 use Rattle.std.proofs.lemmas.Bool.{cond-true, cond-false}
-use Rattle.tl_definitions.proofs.Sublists.{In}
-use Rattle.tl_closing.proofs.Members.{Distinct, count, count_le, count_but_one, count_all, count_one}
+use Rattle.tl_lists.proofs.Members.{In}
+use Rattle.tl_lists.proofs.Distinct.{Distinct}
+use Rattle.tl_lists.proofs.Counts.{count, count_le, count_but_one, count_all, count_one}
 
 module _ {A : Type 0} (eq : A → A → Bool) (eq-same : (x y : A) → eq x y ≡ true → x ≡ y) (eq-refl : (x : A) → eq x x ≡ true) (difference : A → A → ℤ) where
   -- Each vertex is in a class, named by one of its vertices, and has a number. An edge merges the classes of its
@@ -59,8 +60,8 @@ module _ {A : Type 0} (eq : A → A → Bool) (eq-same : (x y : A) → eq x y �
       stays h w true k = eq-same _ _ h ∙ sym (eq-same _ _ k)
       stays h w false k = refl
 
-      kept : eq (class es e.0) (class es e.1) ≡ true → count (is_root es) vs ≤ count (is_root (e ∷ es)) vs
-      kept h = count_le (is_root es) (is_root (e ∷ es)) vs (λ w j p. ap (λ (c : A). eq c w) (stays h w (eq (class es w) (class es e.1)) refl) ∙ p)
+      is_grid : eq (class es e.0) (class es e.1) ≡ true → count (is_root es) vs ≤ count (is_root (e ∷ es)) vs
+      is_grid h = count_le (is_root es) (is_root (e ∷ es)) vs (λ w j p. ap (λ (c : A). eq c w) (stays h w (eq (class es w) (class es e.1)) refl) ∙ p)
 
       shifted : (a b c : ℤ) (t : Bool) → b ≡ a +ℤ difference u v → cond t (b +ℤ c) b ≡ cond t (a +ℤ c) a +ℤ difference u v
       shifted a b c true h = omega (arith, ints, h)
@@ -77,7 +78,7 @@ module _ {A : Type 0} (eq : A → A → Bool) (eq-same : (x y : A) → eq x y �
 
       go : (t : Bool) → eq (class es e.0) (class es e.1) ≡ t → ((u, v) ≡ e) ⊎ In (u, v) es
           → (In (u, v) es → number es v ≡ number es u +ℤ difference u v) → number (e ∷ es) v ≡ number (e ∷ es) u +ℤ difference u v
-      go true h j ih = absurd (omega (arith, tight, kept h, roots es vs d))
+      go true h j ih = absurd (omega (arith, tight, is_grid h, roots es vs d))
       go false h (inl same) ih = subst (λ (p : A × A). number (e ∷ es) p.1 ≡ number (e ∷ es) p.0 +ℤ difference p.0 p.1) (sym same) (new h)
       go false h (inr j) ih =
           let one : eq (class es v) (class es e.1) ≡ eq (class es u) (class es e.1) = ap (λ (c : A). eq c (class es e.1)) (sym (class-same es u v j)) in

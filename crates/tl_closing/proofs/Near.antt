@@ -5,10 +5,10 @@ use Rattle.tl_definitions.specs.declared.Kind.TheVariants.{Square, Triangle}
 use Rattle.tl_definitions.specs.declared.Cell.{Cell}
 use Rattle.tl_definitions.specs.declared.Corner.{Corner}
 use Rattle.tl_definitions.specs.Lattice.{cell, is_cell, left, right, above, below, neighbours, are_neighbours, is_dark}
-use Rattle.tl_definitions.proofs.Sublists.{In, Each, Each-at, cell_eq-refl, In-any_of}
+use Rattle.tl_definitions.proofs.Cells.{cell_eq-refl, cell-same}
+use Rattle.tl_lists.proofs.Members.{In, Each, Each-at, In-any_of}
 use Rattle.tl_definitions.proofs.Neighbours.{neighbours-back}
 use Rattle.tl_definitions.proofs.Darts.{less-of}
-use Rattle.tl_definitions.proofs.Regions.{cell-same}
 use Rattle.tl_closing.specs.Closing.{steps_round}
 use Rattle.tl_closing.proofs.Sides.{left_step, other_steps, steps-table}
 use Rattle.tl_closing.proofs.Centres.{IsCentre, round-centre, cell-one}

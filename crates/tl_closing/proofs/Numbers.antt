@@ -13,7 +13,7 @@ use Rattle.tl_definitions.specs.Lattice.{corner, corners}
 use Rattle.tl_definitions.specs.Region.{Region, is_corner_of}
 use Rattle.tl_definitions.specs.Accepted.{IsPlaced}
 use Rattle.tl_definitions.specs.Heights.{height_count, height, AreHeightsOf}
-use Rattle.tl_definitions.proofs.Sublists.{In}
+use Rattle.tl_lists.proofs.Members.{In}
 use Rattle.tl_closing.proofs.Edges.{corner_of-parts, corner-near, cell-within}
 
 -- the number at a place: the function's at a corner of the region, and 0 elsewhere

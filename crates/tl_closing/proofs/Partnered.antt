@@ -8,15 +8,16 @@ use Rattle.std.proofs.lemmas.Bool.{and_parts, and_from, not-true, false_from_ne_
 use Rattle.tl_definitions.specs.declared.Cell.{Cell}
 use Rattle.tl_definitions.specs.declared.Corner.{Corner}
 use Rattle.tl_definitions.specs.declared.Tile.{Tile}
-use Rattle.tl_definitions.specs.Lattice.{cell_eq, Side, sides}
-use Rattle.tl_definitions.specs.Region.{Region, all_sides, is_boundary, boundary}
+use Rattle.tl_definitions.specs.Lattice.{cell_eq, Side, sides, rise}
+use Rattle.tl_definitions.specs.Region.{Region, all_sides, is_boundary, boundary, is_step}
 use Rattle.tl_definitions.specs.Accepted.{IsPlaced}
 use Rattle.tl_definitions.specs.Tiling.{covers, is_tiling, other_cell, tiles_by}
-use Rattle.tl_definitions.specs.Obstruction.{is_step}
-use Rattle.tl_definitions.specs.Heights.{rise, has_edge, climb}
-use Rattle.tl_definitions.proofs.Regions.{cell_eq-same, same_test}
-use Rattle.tl_definitions.proofs.Sublists.{In, In-filter, In-flat_map, cell_eq-refl, In-any_of, any-In, In-map_parts}
-use Rattle.tl_definitions.proofs.Ordered.{Only, find-only}
+use Rattle.tl_definitions.specs.Heights.{has_edge, climb}
+use Rattle.tl_definitions.proofs.Cells.{cell_eq-same, cell_eq-refl}
+use Rattle.tl_lists.proofs.Tests.{same_test}
+use Rattle.tl_lists.proofs.Members.{In, In-filter, In-flat_map, In-any_of, any-In, In-map_parts}
+use Rattle.tl_lists.proofs.Counts.{Only}
+use Rattle.tl_lists.proofs.Searches.{find-only}
 use Rattle.tl_definitions.proofs.Partners.{AreMatched, stands_in_one, tiles_by-tiling}
 use Rattle.tl_definitions.proofs.Tilings.{tiling-parts}
 use Rattle.tl_closing.specs.Closing.{step_along, steps_round}

@@ -7,21 +7,19 @@ use Rattle.tl_definitions.specs.declared.Kind.TheVariants.{Square, Triangle}
 use Rattle.tl_definitions.specs.declared.Cell.{Cell}
 use Rattle.tl_definitions.specs.declared.Corner.{Corner}
 use Rattle.tl_definitions.specs.declared.Tile.{Tile}
-use Rattle.tl_definitions.specs.Lattice.{is_dark, corners, cell_lt, steps_out, side, sides}
-use Rattle.tl_definitions.specs.Region.{Region, present, is_inner}
+use Rattle.tl_definitions.specs.Lattice.{is_dark, corners, cell_lt, steps_out, side, sides, steps_in}
+use Rattle.tl_definitions.specs.Region.{Region, is_inner}
+use Rattle.tl_lists.specs.Lists.{present}
 use Rattle.tl_definitions.specs.Tiling.{tile_of, covers}
 use Rattle.tl_definitions.specs.Flip.{hi, lo}
 use Rattle.tl_definitions.specs.Heights.{has_edge}
-use Rattle.tl_definitions.proofs.Regions.{same_test}
-use Rattle.tl_definitions.proofs.Sublists.{In, In-map}
-use Rattle.tl_definitions.proofs.Ordered.{In-list_all}
+use Rattle.tl_lists.proofs.Tests.{same_test}
+use Rattle.tl_lists.proofs.Members.{In, In-map, In-list_all}
 use Rattle.tl_closing.specs.Closing.{step_along, steps_round}
-use Rattle.tl_closing.specs.Standing.{steps_in}
 use Rattle.tl_closing.proofs.Sides.{directed, left_step, other_steps, steps-table, corner_table, corners-table}
-use Rattle.tl_closing.proofs.Steps.{step-move}
+use Rattle.tl_definitions.proofs.Steps.{step-move, move-step_in}
 use Rattle.tl_closing.proofs.Centres.{cell-two}
 use Rattle.tl_closing.proofs.Crossed.{covers-cases, covers-from, edge-round, round-edge}
-use Rattle.tl_closing.proofs.OffBoundary.{move-in}
 use Rattle.tl_closing.proofs.Edges.{Step, round-step}
 use Rattle.tl_closing.proofs.Ring.{inner-ring}
 use Rattle.tl_closing.proofs.Standing.{IsDart, claims, Claims, colours-differ}
@@ -128,8 +126,8 @@ module _ (R : Region) (v : Corner) (inner : is_inner R v ≡ true) where
   pub lo-covers : (a : Cell) → In v (corners R.kind a) → (s : Tile) × In s (lo R.kind v) × (covers s a ≡ true)
   lo-covers a i = not-all (λ s. covers s a) (lo R.kind v) (λ all. go (round-begins R.kind a v i).1 (sym (covering a).1 ∙ all))
     where
-      go : Ends v (steps_round R.kind a) → list_all (λ u. not (has_edge R.kind a u v)) (steps_in R.kind v) ≡ true → ⊥
+      go : Ends v (steps_round R.kind a) → list_all (λ u. not (has_edge R.kind a u v)) (present (steps_in R.kind v)) ≡ true → ⊥
       go (u, j) all =
           let out : not (has_edge R.kind a u v) ≡ true =
-          In-list_all (λ u. not (has_edge R.kind a u v)) (steps_in R.kind v) u all (move-in R.kind u v (step-move R.kind u v (round-step R.kind a (u, v) j))) in
+          In-list_all (λ u. not (has_edge R.kind a u v)) (present (steps_in R.kind v)) u all (move-step_in R.kind u v (step-move R.kind u v (round-step R.kind a (u, v) j))) in
           cc (out, round-edge R.kind a (u, v) j)

@@ -4,8 +4,8 @@ use Rattle.std.proofs.lemmas.Int.{ints}
 use Rattle.tl_definitions.specs.declared.Kind.{Kind}
 use Rattle.tl_definitions.specs.declared.Kind.TheVariants.{Square, Triangle}
 use Rattle.tl_definitions.specs.declared.Corner.{Corner}
-use Rattle.tl_definitions.specs.Obstruction.{int_sum}
-use Rattle.tl_definitions.proofs.Sublists.{In, Each, Each-at}
+use Rattle.tl_lists.specs.Lists.{int_sum}
+use Rattle.tl_lists.proofs.Members.{In, Each, Each-at}
 use Rattle.tl_closing.proofs.Sides.{left_step, other_steps, corner_table}
 
 module _ {L : Type 0} (label : Corner → L) where

@@ -6,8 +6,8 @@ use Rattle.tl_definitions.specs.declared.Kind.TheVariants.{Square, Triangle}
 use Rattle.tl_definitions.specs.declared.Cell.{Cell}
 use Rattle.tl_definitions.specs.declared.Corner.{Corner}
 use Rattle.tl_definitions.specs.Lattice.{cell, corner, is_cell, less, left, right, above, below, neighbours, are_neighbours, is_dark}
-use Rattle.tl_definitions.proofs.Sublists.{In, any-In}
-use Rattle.tl_definitions.proofs.Regions.{is_cell-some}
+use Rattle.tl_lists.proofs.Members.{In, any-In}
+use Rattle.tl_definitions.proofs.Cells.{is_cell-some}
 use Rattle.tl_definitions.proofs.Corners.{corner-same}
 use Rattle.tl_definitions.proofs.Darts.{less-some, cell_at-some}
 use Rattle.tl_closing.specs.Closing.{steps_round}

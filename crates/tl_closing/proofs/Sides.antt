@@ -6,10 +6,10 @@ use Rattle.tl_definitions.specs.declared.Kind.TheVariants.{Square, Triangle}
 use Rattle.tl_definitions.specs.declared.Cell.{Cell}
 use Rattle.tl_definitions.specs.declared.Corner.{Corner}
 use Rattle.tl_definitions.specs.Lattice.{corner, is_corner, is_dark, corners, Side, side, sides}
-use Rattle.tl_definitions.specs.Accepted.{turned}
-use Rattle.tl_definitions.proofs.Sublists.{In, Each}
+use Rattle.tl_lists.specs.Lists.{turned}
+use Rattle.tl_lists.proofs.Members.{In, Each}
 use Rattle.tl_closing.specs.Closing.{step_along, steps_round}
-use Rattle.tl_closing.proofs.Steps.{IsStepOut, move-step}
+use Rattle.tl_definitions.proofs.Steps.{IsStepOut, move-step}
 
 -- a dark cell has an even sum of row and column, and a light one an odd sum
 abbrev pub Parity : Bool → ℕ → Type 0

@@ -10,20 +10,19 @@ use Rattle.tl_definitions.specs.declared.Kind.TheVariants.{Square, Triangle}
 use Rattle.tl_definitions.specs.declared.Cell.{Cell}
 use Rattle.tl_definitions.specs.declared.Corner.{Corner}
 use Rattle.tl_definitions.specs.declared.Tile.{Tile}
-use Rattle.tl_definitions.specs.Lattice.{corner, cell_lt, is_corner, is_dark, ring, steps_out, side, sides}
-use Rattle.tl_definitions.specs.Region.{Region, present, is_inner}
-use Rattle.tl_definitions.specs.Accepted.{turned}
+use Rattle.tl_definitions.specs.Lattice.{corner, cell_lt, is_corner, is_dark, ring, steps_out, side, sides, rise, steps_in}
+use Rattle.tl_definitions.specs.Region.{Region, is_inner, is_step}
+use Rattle.tl_lists.specs.Lists.{present, turned}
 use Rattle.tl_definitions.specs.Tiling.{tile_of, tile_eq, is_in, is_tiling}
 use Rattle.tl_definitions.specs.Flip.{hi, lo, stands_high, stands_low}
-use Rattle.tl_definitions.specs.Obstruction.{is_step}
-use Rattle.tl_definitions.specs.Heights.{rise, climb}
-use Rattle.tl_definitions.proofs.Regions.{same_test}
-use Rattle.tl_definitions.proofs.Sublists.{In, In-map, cell_eq-refl, cell_lt-irreflexive, cell_lt-transitive, In-any_of, any-In}
+use Rattle.tl_definitions.specs.Heights.{climb}
+use Rattle.tl_lists.proofs.Tests.{same_test}
+use Rattle.tl_definitions.proofs.Cells.{cell_eq-refl, cell_lt-irreflexive, cell_lt-transitive}
+use Rattle.tl_lists.proofs.Members.{In, In-map, In-any_of, any-In}
 use Rattle.tl_definitions.proofs.Corners.{corner-same}
 use Rattle.tl_definitions.proofs.Darts.{less-of}
 use Rattle.tl_definitions.proofs.Tilings.{tile_eq-same, TilingParts, tiling-parts}
 use Rattle.tl_closing.specs.Closing.{step_along, steps_round}
-use Rattle.tl_closing.specs.Standing.{steps_in}
 use Rattle.tl_closing.proofs.Sides.{directed, dark-from, light-from}
 use Rattle.tl_closing.proofs.Centres.{cell-two}
 use Rattle.tl_closing.proofs.Edges.{Step, round-step, is_step-from}
@@ -215,15 +214,13 @@ module _ (cells : List Cell) (v : Corner) (g : SquareRing cells v) where
   unfolding on back
   outs-odd odd = rw (ne_eqb ((v.r + v.x) % 2) 0 (omega (arith, odd)), less-of v.x 1 g.nw.c (sym g.nw_c)) refl
 
-  ins-even : (v.r + v.x) % 2 ≡ 0 → steps_in Square v ≡ on ∷ back ∷ []
+  ins-even : (v.r + v.x) % 2 ≡ 0 → present (steps_in Square v) ≡ on ∷ back ∷ []
   unfolding on back
-  ins-even even = rw (eq-eqb _ _ even) (ap (λ (w : Corner). corner v.r (v.x + 1) ∷ w ∷ []) (corner-same (corner v.r (v.x - 1)) (corner v.r g.nw.c) refl (omega (arith, g.nw_c))))
+  ins-even even = rw (eq-eqb _ _ even, less-of v.x 1 g.nw.c (sym g.nw_c)) refl
 
-  ins-odd : (v.r + v.x) % 2 ≡ 1 → steps_in Square v ≡ up ∷ down ∷ []
+  ins-odd : (v.r + v.x) % 2 ≡ 1 → present (steps_in Square v) ≡ up ∷ down ∷ []
   unfolding up down
-  ins-odd odd =
-      rw (ne_eqb ((v.r + v.x) % 2) 0 (omega (arith, odd)))
-      (ap (λ (w : Corner). w ∷ corner (v.r + 1) v.x ∷ []) (corner-same (corner (v.r - 1) v.x) (corner g.nw.r v.x) (omega (arith, g.nw_r)) refl))
+  ins-odd odd = rw (ne_eqb ((v.r + v.x) % 2) 0 (omega (arith, odd)), less-of v.r 1 g.nw.r (sym g.nw_r)) refl
 
 abbrev out_pairs : List Cell → List (Cell × Cell)
 out_pairs cells = filter (λ p. is_dark p.0) (zip cells (turned cells))
@@ -247,7 +244,7 @@ module _ (cells : List Cell) (test : Tile → Bool) (crossed : Corner → Corner
   abbrev pub Claims : Kind → Type 0
   Claims k =
       (list_all test (hi k v) ≡ list_all (λ w. crossed v w) (present (steps_out k v)))
-      × (list_all test (lo k v) ≡ list_all (λ u. crossed u v) (steps_in k v))
+      × (list_all test (lo k v) ≡ list_all (λ u. crossed u v) (present (steps_in k v)))
 
   claims-square : Outs Square → Ins Square → SquareRing cells v → Claims Square
   claims-square out into g = go (cases_Bool (eqb ((v.r + v.x) % 2) 0))
@@ -474,12 +471,9 @@ module _ (cells : List Cell) (v : Corner) (odd : (v.r + v.x) % 2 ≡ 1) (g : Tri
   unfolding w0 w2 w4
   outs-triangle = rw (less-of v.r 1 g.one.r (sym g.one_r), less-of v.x 1 g.two.c (sym g.two_c)) refl
 
-  ins-triangle : steps_in Triangle v ≡ w1 ∷ w3 ∷ w5 ∷ []
+  ins-triangle : present (steps_in Triangle v) ≡ w1 ∷ w3 ∷ w5 ∷ []
   unfolding w1 w3 w5
-  ins-triangle =
-      let first : corner (v.r - 1) (v.x + 1) ≡ corner g.one.r (v.x + 1) = corner-same _ _ (omega (arith, g.one_r)) refl in
-      let last : corner v.r (v.x - 2) ≡ corner v.r g.one.c = corner-same _ _ refl (omega (arith, g.one_c)) in
-      λ i. first i ∷ corner (v.r + 1) (v.x + 1) ∷ last i ∷ []
+  ins-triangle = rw (less-of v.r 1 g.one.r (sym g.one_r), less-of v.x 2 g.one.c (sym g.one_c)) refl
 
 module _ (cells : List Cell) (test : Tile → Bool) (crossed : Corner → Corner → Bool) (v : Corner) where
   claims-triangle : Outs cells test crossed v Triangle → Ins cells test crossed v Triangle → (v.r + v.x) % 2 ≡ 1 → TriangleRing cells v → Claims cells test crossed v Triangle
@@ -511,7 +505,7 @@ claims cells test crossed v Triangle out into e whole = claims-triangle cells te
 
 module _ (R : Region) (A : List Tile) (v : Corner) (crossed : Corner → Corner → Bool) (inner : is_inner R v ≡ true) where
   standing : Outs R.cells (is_in A) crossed v R.kind → Ins R.cells (is_in A) crossed v R.kind
-      → (stands_high R A v ≡ list_all (λ w. crossed v w) (present (steps_out R.kind v))) × (stands_low R A v ≡ list_all (λ u. crossed u v) (steps_in R.kind v))
+      → (stands_high R A v ≡ list_all (λ w. crossed v w) (present (steps_out R.kind v))) × (stands_low R A v ≡ list_all (λ u. crossed u v) (present (steps_in R.kind v)))
   standing out into =
       let both : Claims R.cells (is_in A) crossed v R.kind = claims R.cells (is_in A) crossed v R.kind out into (and_parts _ _ inner).0 (inner-ring R v inner) in (
         ap (λ (t : Bool). t && list_all (is_in A) (hi R.kind v)) inner ∙ both.0,
@@ -522,7 +516,7 @@ module _ (R : Region) (A : List Tile) (v : Corner) (crossed : Corner → Corner 
 -- all steps to it.
 pub standing-crossed : (R : Region) (A : List Tile) (v : Corner) → IsTrue (is_tiling R A) → is_inner R v ≡ true
     → (stands_high R A v ≡ list_all (λ w. is_crossed R A (v, w)) (present (steps_out R.kind v)))
-    × (stands_low R A v ≡ list_all (λ u. is_crossed R A (u, v)) (steps_in R.kind v))
+    × (stands_low R A v ≡ list_all (λ u. is_crossed R A (u, v)) (present (steps_in R.kind v)))
 standing-crossed R A v tiling inner =
     standing R A v (λ u w. is_crossed R A (u, w)) inner
     (λ w a b g e f. dart-out R A (tiling-parts R A tiling) v w a b g e f) (λ w a b g e f. dart-in R A (tiling-parts R A tiling) v w a b g e f)
@@ -548,7 +542,7 @@ crossed-told k x y t e = go t (int_lt y x) refl e
 pub standing-heights : (R : Region) (A : List Tile) (h : Corner → ℤ) (v : Corner) → IsTrue (is_tiling R A)
     → ((u w : Corner) → IsTrue (is_step R u w) → h w ≡ h u +ℤ climb R A u w) → is_inner R v ≡ true
     → (stands_high R A v ≡ list_all (λ w. int_lt (h w) (h v)) (present (steps_out R.kind v)))
-    × (stands_low R A v ≡ list_all (λ u. int_lt (h v) (h u)) (steps_in R.kind v))
+    × (stands_low R A v ≡ list_all (λ u. int_lt (h v) (h u)) (present (steps_in R.kind v)))
 standing-heights R A h v tiling along inner = standing R A v (λ u w. int_lt (h w) (h u)) inner out into
   where
     parts : TilingParts R A

@@ -7,10 +7,10 @@ use Rattle.tl_definitions.specs.declared.Corner.{Corner}
 use Rattle.tl_definitions.specs.Lattice.{cell, corner_lt, is_dark, corners, Side, sides}
 use Rattle.tl_definitions.specs.Region.{Region, all_sides, is_boundary, boundary, is_corner_of}
 use Rattle.tl_definitions.specs.Accepted.{IsCircuit, circuit_corners}
-use Rattle.tl_definitions.proofs.Sublists.{In, In-filter, In-flat_map, In-map, cell_lt-irreflexive, cell_lt-transitive, In-map_parts}
-use Rattle.tl_definitions.proofs.Ordered.{In-list_all}
+use Rattle.tl_definitions.proofs.Cells.{cell_lt-irreflexive, cell_lt-transitive}
+use Rattle.tl_lists.proofs.Members.{In, In-filter, In-flat_map, In-map, In-map_parts, In-list_all}
 use Rattle.tl_closing.specs.Closing.{step_along, steps_round}
-use Rattle.tl_closing.proofs.Members.{Distinct}
+use Rattle.tl_lists.proofs.Distinct.{Distinct}
 use Rattle.tl_closing.proofs.Sides.{left_step, left_here, directed, steps-table}
 use Rattle.tl_closing.proofs.Centres.{IsCentre, round-centre, cell-one}
 use Rattle.tl_closing.proofs.Edges.{Step, round-corners, corner_of-from}

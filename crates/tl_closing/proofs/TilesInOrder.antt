@@ -7,11 +7,14 @@ use Rattle.tl_definitions.specs.declared.Kind.TheVariants.{Square, Triangle}
 use Rattle.tl_definitions.specs.declared.Cell.{Cell}
 use Rattle.tl_definitions.specs.declared.Tile.{Tile}
 use Rattle.tl_definitions.specs.Lattice.{cell, cell_lt, left, above, below, neighbours, is_dark}
-use Rattle.tl_definitions.specs.Region.{Region, present}
-use Rattle.tl_definitions.specs.Accepted.{linked, IsPlaced}
+use Rattle.tl_definitions.specs.Region.{Region}
+use Rattle.tl_lists.specs.Lists.{present, linked}
+use Rattle.tl_definitions.specs.Accepted.{IsPlaced}
 use Rattle.tl_definitions.specs.Tiling.{tile_lt, is_tile, tiles}
-use Rattle.tl_definitions.proofs.Sublists.{pair, In, later, linked-tail, cell_lt-cases, cell_lt-from, cell_lt-irreflexive, cell_lt-transitive, tile_lt-from, tile_lt-irreflexive, tile_lt-transitive, In-map_parts, In-flat_map_parts}
-use Rattle.tl_definitions.proofs.Ordered.{In-filter_parts, linked-append, linked-filter}
+use Rattle.tl_definitions.proofs.Tiles.{pair, tile_lt-from, tile_lt-irreflexive, tile_lt-transitive}
+use Rattle.tl_definitions.proofs.Cells.{cell_lt-cases, cell_lt-from, cell_lt-irreflexive, cell_lt-transitive}
+use Rattle.tl_lists.proofs.Members.{In, In-map_parts, In-flat_map_parts, In-filter_parts}
+use Rattle.tl_lists.proofs.Orders.{later, linked-tail, linked-append, linked-filter}
 use Rattle.tl_definitions.proofs.Partners.{cells-linked}
 use Rattle.tl_closing.proofs.Shared.{left-coordinates, above-coordinates}
 

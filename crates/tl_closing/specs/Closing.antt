@@ -4,8 +4,8 @@ use Rattle.tl_definitions.specs.declared.Kind.{Kind}
 use Rattle.tl_definitions.specs.declared.Cell.{Cell}
 use Rattle.tl_definitions.specs.declared.Corner.{Corner}
 use Rattle.tl_definitions.specs.Lattice.{is_dark, sides, Side}
-use Rattle.tl_definitions.specs.Region.{Region, has, is_corner_of}
-use Rattle.tl_definitions.specs.Obstruction.{int_sum, is_step}
+use Rattle.tl_definitions.specs.Region.{Region, has, is_corner_of, is_step}
+use Rattle.tl_lists.specs.Lists.{int_sum}
 
 -- The directed step along a side has the dark cell on its left: it goes as the side does where the side's cell
 -- is dark, and backwards where it is light.

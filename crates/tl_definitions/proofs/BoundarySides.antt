@@ -7,9 +7,8 @@ use Rattle.tl_definitions.specs.declared.rings.Dart.{Dart}
 use Rattle.tl_definitions.specs.Lattice.{corner_eq, is_corner, sides, Side, side}
 use Rattle.tl_definitions.specs.Region.{Region, has, has_at, all_sides, is_other_side, is_boundary, boundary}
 use Rattle.tl_definitions.specs.Darts.{darts, left_cell, right_cell, other_end}
-use Rattle.tl_definitions.proofs.Sublists.{In, In-any, In-filter, In-flat_map, In-flat_map_parts}
-use Rattle.tl_definitions.proofs.Ordered.{list_all-In, In-list_all, In-filter_parts}
-use Rattle.tl_definitions.proofs.Partners.{In-has}
+use Rattle.tl_definitions.proofs.Cells.{In-any, In-has}
+use Rattle.tl_lists.proofs.Members.{In, In-filter, In-flat_map, In-flat_map_parts, list_all-In, In-list_all, In-filter_parts}
 use Rattle.tl_definitions.proofs.Darts.{Lies, IsEnd, LeavesBy, EntersBy, cell_back-lies, lies-cell_back, end-is, same_dart, side_darts}
 use Rattle.tl_definitions.proofs.DartSides.{IsSideOf, left_side, right_side}
 use Rattle.tl_definitions.proofs.CornerRings.{has_at-some, has-has_at}

@@ -8,16 +8,17 @@ use Rattle.tl_definitions.specs.declared.Corner.{Corner}
 use Rattle.tl_definitions.specs.declared.rings.Dart.{Dart}
 use Rattle.tl_definitions.specs.Lattice.{corner_eq, corner_lt, Side}
 use Rattle.tl_definitions.specs.Region.{Region, corner_places, boundary, side_eq}
-use Rattle.tl_definitions.specs.Accepted.{IsPlaced, turned, is_pinch, distinct, is_first_of, circuit_corners, IsCircuit}
+use Rattle.tl_definitions.specs.Accepted.{IsPlaced, is_pinch, circuit_corners, IsCircuit}
+use Rattle.tl_lists.specs.Lists.{turned, distinct, is_first_of}
 use Rattle.tl_definitions.specs.Darts.{darts}
 use Rattle.tl_definitions.specs.Boundary.{is_boundary_corner, IsClosedWalk}
 use Rattle.tl_definitions.proofs.Regions.{has-within}
-use Rattle.tl_definitions.proofs.Sublists.{In, In-map, Each, Each-at, any-In, In-any_of, In-map_parts}
-use Rattle.tl_definitions.proofs.Ordered.{list_all-In, In-list_all}
+use Rattle.tl_lists.proofs.Members.{In, In-map, Each, Each-at, any-In, In-any_of, In-map_parts, list_all-In, In-list_all}
 use Rattle.tl_definitions.proofs.Darts.{cell_back-lies}
 use Rattle.tl_definitions.proofs.BoundarySides.{boundary-corners, boundary-leaves, boundary-comes}
-use Rattle.tl_definitions.proofs.NextCorner.{one_side_from, find-In}
-use Rattle.tl_definitions.proofs.CornerPlaces.{corner_places-linked, In-corner_places, find-first}
+use Rattle.tl_definitions.proofs.NextCorner.{one_side_from}
+use Rattle.tl_lists.proofs.Searches.{find-In, find-first}
+use Rattle.tl_definitions.proofs.CornerPlaces.{corner_places-linked, In-corner_places}
 use Rattle.tl_definitions.proofs.Walks.{side-In, In-side, In-last_cases, distinct-tail, IsFreeOfPinches, closed-sides, closed-begins}
 use Rattle.tl_definitions.proofs.Corners.{corner_eq-same, corner_eq-refl, corner_lt-irreflexive, corner_lt-transitive}
 

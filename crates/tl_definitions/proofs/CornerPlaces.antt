@@ -1,14 +1,13 @@
 -- The corner places of a region: their order, and that the ends of its sides are among them.
-use Rattle.std.proofs.Common.{◌≡◌, ℕ, zero, suc, ◌+◌, ◌<◌, ◌≤◌, ◌⊎◌, inl, inr, Bool, true, false, List, [], ◌∷◌, map, cond, Some, refl, sym, ◌∙◌, ap, subst, arith}
-use Rattle.std.specs.Prelude.{flat_map, find}
+use Rattle.std.proofs.Common.{◌≡◌, ℕ, zero, suc, ◌+◌, ◌<◌, ◌≤◌, ◌⊎◌, inl, inr, true, List, map, refl, sym, ap, arith}
+use Rattle.std.specs.Prelude.{flat_map}
 use Rattle.std.specs.List.{range_with_len}
 use Rattle.tl_definitions.specs.declared.Corner.{Corner}
 use Rattle.tl_definitions.specs.Lattice.{corner, corner_lt, is_corner}
-use Rattle.tl_definitions.specs.Region.{Region, corner_places, upto}
-use Rattle.tl_definitions.specs.Accepted.{linked}
-use Rattle.tl_definitions.proofs.Regions.{some_same}
-use Rattle.tl_definitions.proofs.Sublists.{In, In-map, In-filter, In-flat_map, later, linked-tail, In-append_cases, In-range}
-use Rattle.tl_definitions.proofs.Ordered.{linked-cons, linked-append, linked-filter}
+use Rattle.tl_definitions.specs.Region.{Region, corner_places}
+use Rattle.tl_lists.specs.Lists.{upto, linked}
+use Rattle.tl_lists.proofs.Members.{In, In-map, In-filter, In-flat_map, In-append_cases, In-range}
+use Rattle.tl_lists.proofs.Orders.{linked-cons, linked-append, linked-filter}
 use Rattle.tl_definitions.proofs.Corners.{corner_lt-from, corner_lt-irreflexive, corner_lt-transitive}
 
 -- ---- raster order
@@ -58,15 +57,3 @@ In-corner_places R v c h k =
     In-filter (is_corner R.kind) v (rows (R.columns + 2) 0 (R.rows + 1)) c
     (In-flat_map (λ r. row r 0 (R.columns + 2)) v v.r (upto (R.rows + 1)) (In-range v.r 0 (R.rows + 1) (omega arith) (omega (arith, h)))
     (In-map (λ x. corner v.r x) v.x (upto (R.columns + 2)) (In-range v.x 0 (R.columns + 2) (omega arith) (omega (arith, k)))))
-
--- the first of an ordered list that passes stands before the others that do
-pub find-first : {A : Type 0} (lt : A → A → Bool) → ((x : A) → lt x x ≡ true → ⊥) → ((x y z : A) → lt x y ≡ true → lt y z ≡ true → lt x z ≡ true)
-    → (p : A → Bool) (xs : List A) (x y : A) → linked lt xs ≡ true → find p xs ≡ Some x → In y xs → p y ≡ true → (y ≡ x) ⊎ (lt x y ≡ true)
-find-first lt irreflexive transitive p [] x y l f i e = absurd i
-find-first {A} lt irreflexive transitive p (z ∷ xs) x y l f i e = go (p z) refl f i (λ k j. find-first lt irreflexive transitive p xs x y (linked-tail lt irreflexive transitive z xs l) k j e)
-  where
-    go : (t : Bool) → p z ≡ t → cond t (Some z) (find p xs) ≡ Some x → (y ≡ z) ⊎ In y xs → (find p xs ≡ Some x → In y xs → (y ≡ x) ⊎ (lt x y ≡ true)) → (y ≡ x) ⊎ (lt x y ≡ true)
-    go true h k (inl same) ih = inl (same ∙ some_same z x k)
-    go true h k (inr j) ih = inr (subst (λ w. lt w y ≡ true) (some_same z x k) (later lt irreflexive transitive z xs y l j))
-    go false h k (inl same) ih = cc (sym e, ap p same, h)
-    go false h k (inr j) ih = ih k j

@@ -10,9 +10,9 @@ use Rattle.tl_definitions.specs.declared.rings.Dart.{Dart}
 use Rattle.tl_definitions.specs.Lattice.{corner, corner_eq, is_corner, is_dark, corners, sides, Side, side}
 use Rattle.tl_definitions.specs.Region.{Region, has, has_at, all_sides, joins_corners, is_edge, is_corner_of}
 use Rattle.tl_definitions.specs.Darts.{darts, left_cell, right_cell, other_end, is_edge_of}
-use Rattle.tl_definitions.proofs.Regions.{same_test}
-use Rattle.tl_definitions.proofs.Sublists.{In, In-any, In-flat_map, Each, Each-at, any-In, In-any_of, In-flat_map_parts}
-use Rattle.tl_definitions.proofs.Partners.{In-has}
+use Rattle.tl_lists.proofs.Tests.{same_test}
+use Rattle.tl_definitions.proofs.Cells.{In-any, In-has}
+use Rattle.tl_lists.proofs.Members.{In, In-flat_map, Each, Each-at, any-In, In-any_of, In-flat_map_parts}
 use Rattle.tl_definitions.proofs.Darts.{Lies, IsEnd, cell_back-lies, lies-cell_back, end-is, same_dart, side_darts, dart}
 use Rattle.tl_definitions.proofs.DartSides.{left_side, right_side}
 use Rattle.tl_definitions.proofs.Corners.{corner_eq-same, corner_eq-refl}

@@ -3,17 +3,18 @@ use Rattle.std.proofs.Common.{◌≡◌, ℕ, zero, suc, ◌+◌, ◌-◌, ◌*�
 use Rattle.std.specs.Prelude.{flat_map, nat_lt}
 use Rattle.std.specs.List.{list_any, range_with_len}
 use Rattle.std.proofs.lemmas.Bool.{or_cases}
-use Rattle.std.proofs.lemmas.List.{map-id, map-append, length-append, get_or_append_left, get_or-append_right}
+use Rattle.std.proofs.lemmas.List.{map-append, length-append, get_or_append_left, get_or-append_right}
 use Rattle.std.proofs.lemmas.List.Concat.{flat_map-append}
 use Rattle.std.proofs.lemmas.List.Folds.{list_any-append}
 use Rattle.std.proofs.lemmas.List.FromFn.{map-range_with_len_more, length-map-range_with_len, get_or-map-range_with_len}
 use Rattle.tl_definitions.specs.declared.Cell.{Cell}
 use Rattle.tl_definitions.specs.declared.Corner.{Corner}
 use Rattle.tl_definitions.specs.Lattice.{cell, corner, cell_eq, corner_eq, cell_lt, corner_lt}
-use Rattle.tl_definitions.specs.Region.{places, upto}
-use Rattle.tl_definitions.specs.Accepted.{linked}
+use Rattle.tl_definitions.specs.Region.{places}
+use Rattle.tl_lists.specs.Lists.{upto, linked}
 use Rattle.tl_definitions.proofs.Partners.{rows-linked}
 use Rattle.tl_definitions.proofs.Regions.{row-sound, grid-sound, any-places}
+use Rattle.tl_lists.proofs.Members.{upto_more}
 
 -- the first corners of a row, so many
 abbrev pub corner_row : ℕ → ℕ → List Corner
@@ -28,9 +29,6 @@ abbrev pub corners_before : ℕ → ℕ → ℕ → List Corner
 corners_before width r x = corner_rows width r ++ corner_row r x
 
 -- ---- one more
-
-upto_more : (n : ℕ) → upto (n + 1) ≡ upto n ++ (n ∷ [])
-upto_more n = sym (map-id (upto (n + 1))) ∙ map-range_with_len_more (λ x. x) 0 n n (omega arith) ∙ ap (λ (l : List ℕ). l ++ (n ∷ [])) (map-id (upto n))
 
 pub before-more : (width r x : ℕ) → corners_before width r (x + 1) ≡ corners_before width r x ++ (corner r x ∷ [])
 before-more width r x =

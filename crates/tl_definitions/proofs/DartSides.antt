@@ -6,9 +6,9 @@ use Rattle.tl_definitions.specs.declared.Kind.TheVariants.{Square, Triangle}
 use Rattle.tl_definitions.specs.declared.Cell.{Cell}
 use Rattle.tl_definitions.specs.declared.Corner.{Corner}
 use Rattle.tl_definitions.specs.declared.rings.Dart.{Dart}
-use Rattle.tl_definitions.specs.Lattice.{corner, is_corner, is_dark, corners, sides, Side, side}
-use Rattle.tl_definitions.specs.Darts.{darts, cell_width, other_end}
-use Rattle.tl_definitions.proofs.Sublists.{In, Each, Each-at}
+use Rattle.tl_definitions.specs.Lattice.{corner, is_corner, is_dark, corners, sides, Side, side, cell_width}
+use Rattle.tl_definitions.specs.Darts.{darts, other_end}
+use Rattle.tl_lists.proofs.Members.{In, Each, Each-at}
 use Rattle.tl_definitions.proofs.Darts.{Lies, IsEnd, end-is, dart}
 use Rattle.tl_definitions.proofs.Corners.{corner-same}
 

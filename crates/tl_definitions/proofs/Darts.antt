@@ -9,10 +9,9 @@ use Rattle.tl_definitions.specs.declared.Cell.{Cell}
 use Rattle.tl_definitions.specs.declared.Corner.{Corner}
 use Rattle.tl_definitions.specs.declared.rings.Back.{Back}
 use Rattle.tl_definitions.specs.declared.rings.Dart.{Dart}
-use Rattle.tl_definitions.specs.Lattice.{cell, corner, cell_at, cell_back, less, is_corner, is_dark, sides, Side, side}
-use Rattle.tl_definitions.specs.Darts.{darts, cell_width, other_end}
-use Rattle.tl_definitions.proofs.Sublists.{In, Each, Each-at}
-use Rattle.tl_definitions.proofs.Ordered.{In-list_all}
+use Rattle.tl_definitions.specs.Lattice.{cell, corner, cell_at, cell_back, less, is_corner, is_dark, sides, Side, side, cell_width}
+use Rattle.tl_definitions.specs.Darts.{darts, other_end}
+use Rattle.tl_lists.proofs.Members.{In, Each, Each-at, In-list_all}
 use Rattle.tl_definitions.proofs.Corners.{corner-same}
 
 -- ---- places by coordinates

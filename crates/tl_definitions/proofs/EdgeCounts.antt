@@ -8,10 +8,11 @@ use Rattle.tl_definitions.specs.declared.Kind.TheVariants.{Square, Triangle}
 use Rattle.tl_definitions.specs.declared.Corner.{Corner}
 use Rattle.tl_definitions.specs.declared.rings.Dart.{Dart}
 use Rattle.tl_definitions.specs.Lattice.{corner, corner_at, less, is_corner, steps_out}
-use Rattle.tl_definitions.specs.Region.{Region, present, is_edge, steps}
+use Rattle.tl_definitions.specs.Region.{Region, is_edge, steps}
+use Rattle.tl_lists.specs.Lists.{present}
 use Rattle.tl_definitions.specs.Darts.{darts, left_cell, right_cell, other_end, is_outward, is_edge_of}
-use Rattle.tl_definitions.proofs.Regions.{same_test}
-use Rattle.tl_definitions.proofs.Sublists.{In}
+use Rattle.tl_lists.proofs.Tests.{same_test}
+use Rattle.tl_lists.proofs.Members.{In}
 use Rattle.tl_definitions.proofs.Darts.{IsEnd, cell_back-lies, dart, less-some, less-of}
 use Rattle.tl_definitions.proofs.DartSides.{left_side, right_side}
 use Rattle.tl_definitions.proofs.CornerRings.{is_edge-dart, has_at-some}

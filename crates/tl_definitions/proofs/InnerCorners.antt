@@ -13,7 +13,7 @@ use Rattle.tl_definitions.proofs.CornerRings.{is_corner_of-ring}
 use Rattle.tl_definitions.proofs.Turns.{goes, every, every-at}
 use Rattle.tl_definitions.proofs.BoundarySides.{boundary-leaves}
 use Rattle.tl_definitions.proofs.NextCorner.{leaves-from, leaves-side}
-use Rattle.tl_definitions.proofs.Sublists.{any-In, In-any_of}
+use Rattle.tl_lists.proofs.Members.{any-In, In-any_of}
 use Rattle.tl_definitions.proofs.Corners.{corner_eq-same, corner_eq-refl}
 
 -- Where some place of a ring is taken and none of the taken ones is followed by one that isn't, all are taken.

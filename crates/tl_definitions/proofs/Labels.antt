@@ -4,7 +4,7 @@ use Rattle.std.specs.Prelude.{IsTrue}
 use Rattle.tl_definitions.specs.declared.Cell.{Cell}
 use Rattle.tl_definitions.specs.Lattice.{are_neighbours}
 use Rattle.tl_definitions.specs.Region.{Region, has}
-use Rattle.tl_definitions.specs.RegionText.{InOnePart}
+use Rattle.tl_definitions.specs.Accepted.{InOnePart}
 use Rattle.tl_definitions.proofs.Joined.{joined_hands_on}
 
 -- a labelling that is equal at neighbours of the region is the same at all its cells

@@ -2,6 +2,7 @@ pub mod Regions
 pub mod Joined
 pub mod Corners
 pub mod Darts
+pub mod Steps
 pub mod DartSides
 pub mod CornerRings
 pub mod EdgeCounts
@@ -13,28 +14,13 @@ pub mod Walks
 pub mod Circuits
 pub mod InnerCorners
 pub mod Neighbours
-pub mod Decide
-pub mod Sublists
-pub mod Ordered
 pub mod Tilings
 pub mod Partners
-pub mod Drawings
-pub mod Lines
 pub mod Raster
-pub mod RegionTexts
-pub mod Cases
 pub mod CornerRows
 pub mod InnerNumbers
 pub mod Labels
-mod SmallSquares
-mod LatticeExamples
-mod CircuitExamples
-mod BoundaryExamples
-mod HeightExamples
-mod SweepExamples
-mod DiamondExamples
-mod SampleExamples
-mod TextExamples
-mod RefusalExamples
-mod EdgeExamples
-pub mod Laws
+pub mod Cells
+pub mod Tiles
+pub mod Decide
+pub mod StepDarts

@@ -1,7 +1,6 @@
 -- Without a pinch one boundary side leaves each boundary corner, and one comes to it.
-use Rattle.std.proofs.Common.{◌≡◌, ◌-◌, ◌≤◌, ◌⊎◌, inl, inr, Bool, true, false, not, List, [], ◌∷◌, cond, Option, Some, None, refl, sym, ◌∙◌, ap, subst, arith}
+use Rattle.std.proofs.Common.{◌≡◌, ◌-◌, ◌≤◌, true, false, not, Option, Some, None, refl, sym, ◌∙◌, ap, subst, arith}
 use Rattle.std.specs.Prelude.{find, is_some}
-use Rattle.std.specs.List.{list_any}
 use Rattle.std.proofs.lemmas.Bool.{and_parts, and_from, not-true}
 use Rattle.tl_definitions.specs.declared.Cell.{Cell}
 use Rattle.tl_definitions.specs.declared.Corner.{Corner}
@@ -11,10 +10,10 @@ use Rattle.tl_definitions.specs.Region.{Region, has_at, boundary}
 use Rattle.tl_definitions.specs.Accepted.{is_pinch}
 use Rattle.tl_definitions.specs.Darts.{darts, left_cell, right_cell, other_end, leaves, enters}
 use Rattle.tl_definitions.specs.Boundary.{side_from, is_boundary_corner}
-use Rattle.tl_definitions.proofs.Regions.{same_test, some_same}
-use Rattle.tl_definitions.proofs.Sublists.{In, any-In, In-any_of}
+use Rattle.tl_lists.proofs.Tests.{same_test, some_same}
+use Rattle.tl_lists.proofs.Members.{In, any-In, In-any_of}
 use Rattle.tl_definitions.proofs.Darts.{Lies, cell_back-lies}
-use Rattle.tl_definitions.proofs.Ordered.{find-only}
+use Rattle.tl_lists.proofs.Searches.{find-only, find-In, find-none, none-find}
 use Rattle.tl_definitions.proofs.CornerRings.{has_at-some, has-has_at}
 use Rattle.tl_definitions.proofs.Turns.{one_leaves, one_enters, leaves_where_enters, enters_where_leaves}
 use Rattle.tl_definitions.proofs.BoundarySides.{LeavesThrough, ComesThrough, boundary-corners, boundary-leaves, boundary-comes, leaving_side, coming_side}
@@ -87,34 +86,6 @@ find_from R s p i =
     (λ t j e. sym (one_side_from R s t p i j (corner_eq-same t.from s.from e)))
 
 -- ---- the first dart that the boundary leaves by
-
-pub find-In : {A : Type 0} (p : A → Bool) (xs : List A) (x : A) → find p xs ≡ Some x → In x xs × (p x ≡ true)
-find-In p [] x e = cc e
-find-In {A} p (y ∷ xs) x e = go (p y) refl e (λ f. find-In p xs x f)
-  where
-    go : (t : Bool) → p y ≡ t → cond t (Some y) (find p xs) ≡ Some x → (find p xs ≡ Some x → In x xs × (p x ≡ true)) → In x (y ∷ xs) × (p x ≡ true)
-    go true h f ih = (inl (sym (some_same y x f)), subst (λ z. p z ≡ true) (some_same y x f) h)
-    go false h f ih = let q = ih f in (inr q.0, q.1)
-
-pub find-none : {A : Type 0} (p : A → Bool) (xs : List A) → find p xs ≡ None → (x : A) → In x xs → p x ≡ true → ⊥
-find-none p [] e x i h = i
-find-none {A} p (y ∷ xs) e x i h = go (p y) refl e i (λ f j. find-none p xs f x j h)
-  where
-    go : (t : Bool) → p y ≡ t → cond t (Some y) (find p xs) ≡ None → (x ≡ y) ⊎ In x xs → (find p xs ≡ None → In x xs → ⊥) → ⊥
-    go true k f j ih = cc f
-    go false k f (inl same) ih = cc (sym h, ap p same, k)
-    go false k f (inr j) ih = ih f j
-
-pub none-find : {A : Type 0} (p : A → Bool) (xs : List A) → ((x : A) → In x xs → p x ≡ true → ⊥) → find p xs ≡ None
-none-find p [] f = refl
-none-find {A} p (y ∷ xs) f = go (p y) refl (none-find p xs (λ x i. f x (inr i)))
-  where
-    go : (t : Bool) → p y ≡ t → find p xs ≡ None → cond t (Some y) (find p xs) ≡ None
-    go true h e = absurd (f y (inl refl) h)
-    go false h e = e
-
-pub find-none_any : {A : Type 0} (p : A → Bool) (xs : List A) → find p xs ≡ None → list_any p xs ≡ false
-find-none_any p xs e = same_test (list_any p xs) false (λ h. let (x, i, q) = any-In p xs h in absurd (find-none p xs e x i q)) (λ h. cc h)
 
 -- it is the dart of the boundary side from the corner
 pub exit-side : (R : Region) (v : Corner) (g : Dart) → is_corner R.kind v ≡ true → is_pinch R v ≡ false → find (leaves R v) (darts R.kind) ≡ Some g

@@ -1,19 +1,23 @@
 -- A tiling and its partners determine each other.
-use Rattle.std.proofs.Common.{◌≡◌, ℕ, zero, suc, ◌+◌, ◌<◌, ◌≤◌, ◌⊎◌, inl, inr, Bool, true, false, List, [], ◌∷◌, refl, sym, ◌∙◌, ap, subst, arith, Option, Some, None}
-use Rattle.std.specs.Prelude.{flat_map, count_by, nat_lt, ◌==◌, if◌then◌else◌, option_map}
-use Rattle.std.specs.List.{list_any, cons_option, range_with_len}
-use Rattle.std.proofs.lemmas.Bool.{and_from, or_cases, or_left, or_right, eq-eqb, ltb-true, ltb-false}
+use Rattle.std.proofs.Common.{◌≡◌, ℕ, zero, suc, ◌+◌, ◌≤◌, ◌⊎◌, inl, inr, Bool, true, false, List, [], ◌∷◌, refl, sym, ◌∙◌, ap, subst, arith, Option, Some, None}
+use Rattle.std.specs.Prelude.{flat_map, count_by, ◌==◌, if◌then◌else◌, option_map}
+use Rattle.std.specs.List.{cons_option, range_with_len}
+use Rattle.std.proofs.lemmas.Bool.{and_from, or_cases, or_left, or_right, eq-eqb}
 use Rattle.tl_definitions.specs.declared.Cell.{Cell}
 use Rattle.tl_definitions.specs.declared.Tile.{Tile}
 use Rattle.tl_definitions.specs.Lattice.{cell, cell_eq, cell_lt, are_neighbours}
-use Rattle.tl_definitions.specs.Region.{Region, has, places}
-use Rattle.tl_definitions.specs.Accepted.{linked, IsPlaced}
+use Rattle.tl_definitions.specs.Region.{Region, has, places, row_part}
+use Rattle.tl_definitions.specs.Accepted.{IsPlaced}
+use Rattle.tl_lists.specs.Lists.{linked}
 use Rattle.tl_definitions.specs.Tiling.{tile_lt, covers, is_tile, is_tiling, other_cell, partner, later_tile, tiles_by}
-use Rattle.tl_definitions.specs.Marks.{row_part}
-use Rattle.tl_definitions.proofs.Regions.{some_same, cell_eq-same, cell_eq-of_parts, nat_cases}
+use Rattle.tl_definitions.proofs.Cells.{cell_eq-same, In-any, cell_lt-from, cell_lt-irreflexive, cell_lt-transitive, cell_eq-refl, In-has, cell_lt-total}
+use Rattle.tl_lists.proofs.Tests.{some_same}
 use Rattle.tl_definitions.proofs.Neighbours.{neighbours-back, neighbours-differ}
-use Rattle.tl_definitions.proofs.Sublists.{In, In-any, later, linked-tail, cell_lt-from, cell_lt-irreflexive, cell_lt-transitive, cell_eq-refl, tile_lt-from, tile_lt-irreflexive, tile_lt-transitive, In-append_cases}
-use Rattle.tl_definitions.proofs.Ordered.{list_all-In, In-filter_map, In-filter_map_parts, linked-cons, linked-append, linked-filter, count_by-only, find-only, Only}
+use Rattle.tl_definitions.proofs.Tiles.{tile_lt-from, tile_lt-irreflexive, tile_lt-transitive}
+use Rattle.tl_lists.proofs.Members.{In, In-append_cases, list_all-In, In-filter_map, In-filter_map_parts}
+use Rattle.tl_lists.proofs.Orders.{later, linked-tail, linked-cons, linked-append, linked-filter, count_by-only}
+use Rattle.tl_lists.proofs.Searches.{find-only}
+use Rattle.tl_lists.proofs.Counts.{Only}
 
 -- ---- cells in raster order
 
@@ -50,26 +54,6 @@ pub cells-linked : (R : Region) → IsPlaced R → linked cell_lt R.cells ≡ tr
 cells-linked R placed =
     subst (λ (cells : List Cell). linked cell_lt cells ≡ true) (sym placed)
     (linked-filter cell_lt cell_lt-irreflexive cell_lt-transitive (has R) (places R.rows R.columns) (rows-linked R.columns 0 R.rows))
-
-pub In-has : (a : Cell) (cells : List Cell) → In a cells → list_any (cell_eq a) cells ≡ true
-In-has a [] i = absurd i
-In-has a (b ∷ bs) (inl e) = or_left (cell_eq a b) _ (subst (λ c. cell_eq a c ≡ true) e (cell_eq-refl a))
-In-has a (b ∷ bs) (inr i) = or_right (cell_eq a b) _ (In-has a bs i)
-
-cell_lt-total : (a b : Cell) → cell_eq a b ≡ false → (cell_lt a b ≡ true) ⊎ (cell_lt b a ≡ true)
-cell_lt-total a b differ = go (nat_cases a.r b.r) (nat_cases a.c b.c)
-  where
-    less : (m n : ℕ) → ¬ (m ≡ n) → (m < n) ⊎ (n < m)
-    less m n h = go (nat_lt m n) refl
-      where
-        go : (t : Bool) → nat_lt m n ≡ t → (m < n) ⊎ (n < m)
-        go true e = inl (ltb-true m n e)
-        go false e = inr (omega (arith, h, ltb-false m n e))
-
-    go : (a.r ≡ b.r) ⊎ (¬ (a.r ≡ b.r)) → (a.c ≡ b.c) ⊎ (¬ (a.c ≡ b.c)) → (cell_lt a b ≡ true) ⊎ (cell_lt b a ≡ true)
-    go (inl h) (inl k) = cc (sym (cell_eq-of_parts a b h k), differ)
-    go (inl h) (inr k) = elim (less a.c b.c k) [ inl l ↦ inl (cell_lt-from a b (inr (h, l))) | inr l ↦ inr (cell_lt-from b a (inr (sym h, l))) ]
-    go (inr h) k = elim (less a.r b.r h) [ inl l ↦ inl (cell_lt-from a b (inl l)) | inr l ↦ inr (cell_lt-from b a (inl l)) ]
 
 -- ---- from partners to a tiling
 

@@ -1,25 +1,14 @@
 -- Raster lists of places, row by row, and which of them pass a test.
-use Rattle.std.proofs.Common.{◌≡◌, ℕ, zero, suc, ◌+◌, ◌<◌, ◌≤◌, Bool, true, false, List, [], ◌∷◌, ◌++◌, length, cond, Some, refl, sym, ◌∙◌, ap, subst, arith}
-use Rattle.std.specs.Prelude.{filter, flat_map, find, slice_get}
-use Rattle.std.specs.List.{range_with_len}
-use Rattle.std.proofs.lemmas.List.Elements.{filter-append}
+use Rattle.std.proofs.Common.{◌≡◌, ℕ, zero, suc, ◌+◌, ◌<◌, ◌≤◌, Bool, true, false, List, [], ◌∷◌, ◌++◌, cond, refl, sym, ◌∙◌, ap, arith, ◌&&◌}
+use Rattle.std.specs.Prelude.{filter, flat_map}
+use Rattle.std.specs.List.{range_with_len, list_any}
 use Rattle.tl_definitions.specs.declared.Cell.{Cell}
-use Rattle.tl_definitions.specs.Lattice.{cell}
-use Rattle.tl_definitions.specs.Region.{places, upto}
-use Rattle.tl_definitions.specs.Marks.{row_part, marks, text_marks}
-
--- the first element that passes is the first of those that pass
-pub find-filter : {A : Type 0} (p : A → Bool) (xs : List A) → find p xs ≡ slice_get (filter p xs) 0
-find-filter p [] = refl
-find-filter p (x ∷ xs) = go (p x) (find-filter p xs)
-  where
-    go : (b : Bool) → find p xs ≡ slice_get (filter p xs) 0 → cond b (Some x) (find p xs) ≡ slice_get (cond b (x ∷ filter p xs) (filter p xs)) 0
-    go true e = refl
-    go false e = e
-
-pub filter-flat_map : {A B : Type 0} (p : B → Bool) (f : A → List B) (xs : List A) → filter p (flat_map f xs) ≡ flat_map (λ x. filter p (f x)) xs
-filter-flat_map p f [] = refl
-filter-flat_map p f (x ∷ xs) = filter-append p (f x) (flat_map f xs) ∙ ap (λ l. filter p (f x) ++ l) (filter-flat_map p f xs)
+use Rattle.tl_definitions.specs.Lattice.{cell, cell_eq}
+use Rattle.tl_definitions.specs.Region.{places, row_part}
+use Rattle.tl_lists.specs.Lists.{upto}
+use Rattle.std.proofs.lemmas.Bool.{lt-ltb}
+use Rattle.tl_definitions.proofs.Regions.{any-filter-places}
+use Rattle.tl_lists.proofs.Searches.{filter-flat_map}
 
 -- no place passes
 pub filter-row_none : (p : Cell → Bool) (r c n : ℕ) → ((k : ℕ) → c ≤ k → p (cell r k) ≡ false) → filter p (row_part r c n) ≡ []
@@ -33,38 +22,6 @@ filter-row_cut p r c zero m h none = filter-row_none p r c m (λ k l. none k (om
 filter-row_cut p r c (suc n) zero h none = absurd (omega (arith, h))
 filter-row_cut p r c (suc n) (suc m) h none =
     ap (λ l. cond (p (cell r c)) (cell r c ∷ l) l) (filter-row_cut p r (c + 1) n m (omega (arith, h)) (λ k l. none k (omega arith)))
-
--- a test of places that is the test of their bytes
-pub filter-row_marks : (p : Cell → Bool) (test : ℕ → Bool) (r c : ℕ) (bs : List ℕ)
-    → ((i b : ℕ) → slice_get bs i ≡ Some b → p (cell r (c + i)) ≡ test b) → filter p (row_part r c (length bs)) ≡ marks test r c bs
-filter-row_marks p test r c [] same = refl
-filter-row_marks p test r c (b ∷ bs) same =
-    let here : p (cell r c) ≡ test b = subst (λ (k : ℕ). p (cell r k) ≡ test b) (plus_zero c) (same 0 b refl) in
-    let rest = filter-row_marks p test r (c + 1) bs (λ i d e. subst (λ (k : ℕ). p (cell r k) ≡ test d) (plus_one c i) (same (suc i) d e)) in
-    ap (λ (t : Bool). cond t (cell r c ∷ filter p (row_part r (c + 1) (length bs))) (filter p (row_part r (c + 1) (length bs)))) here
-    ∙ ap (λ (l : List Cell). cond (test b) (cell r c ∷ l) l) rest
-  where
-    plus_zero : (c : ℕ) → c + 0 ≡ c
-    plus_zero c = omega arith
-
-    plus_one : (c i : ℕ) → c + suc i ≡ (c + 1) + i
-    plus_one c i = omega arith
-
-pub filter-rows_marks : (p : Cell → Bool) (test : ℕ → Bool) (columns r : ℕ) (ls : List (List ℕ))
-    → ((i : ℕ) (l : List ℕ) → slice_get ls i ≡ Some l → filter p (row_part (r + i) 0 columns) ≡ marks test (r + i) 0 l)
-    → flat_map (λ r. filter p (row_part r 0 columns)) (range_with_len r (length ls)) ≡ text_marks test r ls
-filter-rows_marks p test columns r [] same = refl
-filter-rows_marks p test columns r (l ∷ ls) same =
-    let here : filter p (row_part r 0 columns) ≡ marks test r 0 l = subst (λ (k : ℕ). filter p (row_part k 0 columns) ≡ marks test k 0 l) (plus_zero r) (same 0 l refl) in
-    let rest = filter-rows_marks p test columns (r + 1) ls (λ i m e. subst (λ (k : ℕ). filter p (row_part k 0 columns) ≡ marks test k 0 m) (plus_one r i) (same (suc i) m e)) in
-    ap (λ (l : List Cell). l ++ flat_map (λ r. filter p (row_part r 0 columns)) (range_with_len (r + 1) (length ls))) here
-    ∙ ap (λ (rest : List Cell). marks test r 0 l ++ rest) rest
-  where
-    plus_zero : (c : ℕ) → c + 0 ≡ c
-    plus_zero c = omega arith
-
-    plus_one : (c i : ℕ) → c + suc i ≡ (c + 1) + i
-    plus_one c i = omega arith
 
 -- the places of a rectangle that pass, row by row
 pub filter-places : (p : Cell → Bool) (rows columns : ℕ) → filter p (places rows columns) ≡ flat_map (λ r. filter p (row_part r 0 columns)) (upto rows)
@@ -89,3 +46,13 @@ filter-places_same p q rows columns same =
     ∙ flat_map-rows_same (λ r. filter p (row_part r 0 columns)) (λ r. filter q (row_part r 0 columns)) 0 rows
     (λ r h l. filter-row_same p q r 0 columns (λ c i j. same (cell r c) (omega (arith, l)) (omega (arith, j))))
     ∙ sym (filter-places q rows columns)
+
+pub filter-placed : (p : Cell → Bool) (rows columns : ℕ) → filter p (places rows columns) ≡ filter (λ a. list_any (cell_eq a) (filter p (places rows columns))) (places rows columns)
+filter-placed p rows columns = filter-places_same p (λ a. list_any (cell_eq a) (filter p (places rows columns))) rows columns inside
+  where
+    inside : (a : Cell) → a.r < rows → a.c < columns → p a ≡ list_any (cell_eq a) (filter p (places rows columns))
+    inside a h k = sym (any-filter-places p a rows columns ∙ ap (λ b. p a && b) (rw (lt-ltb a.r rows h, lt-ltb a.c columns k) refl) ∙ and_true (p a))
+      where
+        and_true : (b : Bool) → (b && true) ≡ b
+        and_true true = refl
+        and_true false = refl

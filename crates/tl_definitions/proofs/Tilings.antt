@@ -7,11 +7,11 @@ use Rattle.tl_definitions.specs.declared.Cell.{Cell}
 use Rattle.tl_definitions.specs.declared.Tile.{Tile}
 use Rattle.tl_definitions.specs.Lattice.{cell_lt, are_neighbours}
 use Rattle.tl_definitions.specs.Region.{Region, has}
-use Rattle.tl_definitions.specs.Accepted.{linked}
+use Rattle.tl_lists.specs.Lists.{linked}
 use Rattle.tl_definitions.specs.Tiling.{tile_lt, tile_eq, covers, is_tile, is_tiling}
-use Rattle.tl_definitions.proofs.Regions.{cell_eq-same}
-use Rattle.tl_definitions.proofs.Sublists.{In, In-any, cell_lt-irreflexive}
-use Rattle.tl_definitions.proofs.Ordered.{In-list_all, Only, only-count_by}
+use Rattle.tl_definitions.proofs.Cells.{cell_eq-same, In-any, cell_lt-irreflexive}
+use Rattle.tl_lists.proofs.Members.{In, In-list_all}
+use Rattle.tl_lists.proofs.Counts.{Only, only-count_by}
 
 pub tile_eq-same : (s t : Tile) → tile_eq s t ≡ true → s ≡ t
 tile_eq-same s t e =

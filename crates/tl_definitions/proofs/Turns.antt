@@ -8,10 +8,11 @@ use Rattle.tl_definitions.specs.declared.Corner.{Corner}
 use Rattle.tl_definitions.specs.declared.rings.Dart.{Dart}
 use Rattle.tl_definitions.specs.Lattice.{cell_back, ring}
 use Rattle.tl_definitions.specs.Region.{Region, has_at}
-use Rattle.tl_definitions.specs.Accepted.{runs, is_pinch, turned}
+use Rattle.tl_definitions.specs.Accepted.{runs, is_pinch}
+use Rattle.tl_lists.specs.Lists.{turned}
 use Rattle.tl_definitions.specs.Darts.{darts, leaves, enters}
-use Rattle.tl_definitions.proofs.Sublists.{In, any-In}
-use Rattle.tl_definitions.proofs.Ordered.{count_by-fails, count_zero, only-count_by}
+use Rattle.tl_lists.proofs.Members.{In, any-In}
+use Rattle.tl_lists.proofs.Counts.{count_by-fails, count_zero, only-count_by}
 use Rattle.std.proofs.lemmas.Bool.{and_parts, or_parts, eqb-true, leb-false}
 
 -- The runs round a corner are as many as the darts along which the boundary comes to it.

@@ -6,11 +6,11 @@ use Rattle.std.proofs.lemmas.Bool.{and_parts, and_from}
 use Rattle.tl_definitions.specs.declared.Corner.{Corner}
 use Rattle.tl_definitions.specs.Lattice.{cell_eq, corner_eq, Side}
 use Rattle.tl_definitions.specs.Region.{Region, boundary, side_eq}
-use Rattle.tl_definitions.specs.Accepted.{turned, is_pinch, distinct, circuit_corners}
+use Rattle.tl_definitions.specs.Accepted.{is_pinch, circuit_corners}
+use Rattle.tl_lists.specs.Lists.{turned, distinct}
 use Rattle.tl_definitions.specs.Boundary.{IsClosedWalk}
-use Rattle.tl_definitions.proofs.Regions.{cell_eq-same}
-use Rattle.tl_definitions.proofs.Sublists.{In, In-map, cell_eq-refl, any-In, In-any_of, In-map_parts}
-use Rattle.tl_definitions.proofs.Ordered.{list_all-In, In-list_all}
+use Rattle.tl_definitions.proofs.Cells.{cell_eq-same, cell_eq-refl}
+use Rattle.tl_lists.proofs.Members.{In, In-map, any-In, In-any_of, In-map_parts, list_all-In, In-list_all}
 use Rattle.tl_definitions.proofs.NextCorner.{side_after, one_side_to}
 use Rattle.tl_definitions.proofs.Corners.{corner_eq-same, corner_eq-refl}
 

@@ -4,7 +4,8 @@ use Rattle.std.specs.List.{list_any, list_all}
 use Rattle.tl_definitions.specs.declared.Corner.{Corner}
 use Rattle.tl_definitions.specs.Lattice.{corner_eq, Side}
 use Rattle.tl_definitions.specs.Region.{Region, boundary, side_eq}
-use Rattle.tl_definitions.specs.Accepted.{turned, distinct, circuit_corners}
+use Rattle.tl_definitions.specs.Accepted.{circuit_corners}
+use Rattle.tl_lists.specs.Lists.{turned, distinct}
 
 -- The boundary side that leaves the corner, with the region on its left. Where there is no pinch, there is at
 -- most one.

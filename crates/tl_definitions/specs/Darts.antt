@@ -6,9 +6,9 @@ use Rattle.tl_definitions.specs.declared.Cell.{Cell}
 use Rattle.tl_definitions.specs.declared.Corner.{Corner}
 use Rattle.tl_definitions.specs.declared.rings.Back.{Back}
 use Rattle.tl_definitions.specs.declared.rings.Dart.{Dart}
-use Rattle.tl_definitions.specs.Lattice.{corner, cell_back}
+use Rattle.tl_definitions.specs.Lattice.{corner, cell_back, cell_width}
 use Rattle.tl_definitions.specs.Region.{Region, has_at}
-use Rattle.tl_definitions.specs.Accepted.{turned}
+use Rattle.tl_lists.specs.Lists.{turned}
 
 abbrev pub back : ℕ → ℕ → Back
 back rows columns = record { rows = rows; columns = columns }
@@ -29,11 +29,6 @@ left_cell v g = cell_back v g.left.rows g.left.columns
 abbrev pub right_cell : Corner → Dart → Option Cell
 right_cell v g = cell_back v g.right.rows g.right.columns
 
--- how many columns a cell spans
-abbrev pub cell_width : Kind → ℕ
-cell_width Square = 1
-cell_width Triangle = 2
-
 -- The other end of the edge: the edge and the two cells have one middle.
 abbrev pub other_end : Kind → Corner → Dart → Corner
 other_end k v g =
@@ -53,3 +48,12 @@ is_outward v g = (v.r + v.x + (g.left.rows + g.left.columns)) % 2 == 0
 -- whether the edge is a side of a cell of the region
 abbrev pub is_edge_of : Region → Corner → Dart → Bool
 is_edge_of R v g = has_at R (left_cell v g) || has_at R (right_cell v g)
+
+-- whether the edge leads from the one corner to the other
+abbrev pub leads_to : Kind → Corner → Dart → Corner → Bool
+leads_to k v g w =
+    v.r + 1 == w.r + (g.left.rows + g.right.rows) && v.x + cell_width k == w.x + (g.left.columns + g.right.columns)
+
+-- whether it does so as a directed step of the region
+abbrev pub is_step_by : Region → Corner → Corner → Dart → Bool
+is_step_by R v w g = is_outward v g && leads_to R.kind v g w && is_edge_of R v g

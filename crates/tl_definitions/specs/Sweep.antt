@@ -4,10 +4,11 @@ use Rattle.std.specs.List.{enumerate_from}
 use Rattle.tl_definitions.specs.declared.Corner.{Corner}
 use Rattle.tl_definitions.specs.declared.Tile.{Tile}
 use Rattle.tl_definitions.specs.Lattice.{class_of, classes}
-use Rattle.tl_definitions.specs.Region.{Region, upto, inner_corners}
+use Rattle.tl_definitions.specs.Region.{Region, inner_corners}
+use Rattle.tl_lists.specs.Lists.{upto}
 use Rattle.tl_definitions.specs.Tiling.{is_tiling}
 use Rattle.tl_definitions.specs.Flip.{can_flip, put_high, put_low}
-use Rattle.tl_definitions.specs.Powers.{IsLeastPower, NoPower}
+use Rattle.tl_lists.specs.Powers.{IsLeastPower, NoPower}
 
 -- The step at an inner corner leaves a tiling as it is where it stands neither high nor low there.
 -- Otherwise it puts hi where the bit is 1, and lo where it is 0.

@@ -4,8 +4,8 @@ use Rattle.std.specs.List.{list_any, list_all, filter_map}
 use Rattle.tl_definitions.specs.declared.Cell.{Cell}
 use Rattle.tl_definitions.specs.declared.Tile.{Tile}
 use Rattle.tl_definitions.specs.Lattice.{cell_eq, cell_lt, neighbours, are_neighbours}
-use Rattle.tl_definitions.specs.Region.{Region, has, present}
-use Rattle.tl_definitions.specs.Accepted.{linked}
+use Rattle.tl_definitions.specs.Region.{Region, has}
+use Rattle.tl_lists.specs.Lists.{present, linked}
 
 -- the tile of two cells, the earlier in raster order first
 abbrev pub tile_of : Cell → Cell → Tile

@@ -5,8 +5,9 @@ use Rattle.std.specs.List.{list_any, range_with_len}
 use Rattle.std.proofs.lemmas.List.Elements.{filter-append}
 use Rattle.tl_definitions.specs.declared.Corner.{Corner}
 use Rattle.tl_definitions.specs.Lattice.{corner, is_corner}
-use Rattle.tl_definitions.specs.Region.{Region, corner_places, upto}
-use Rattle.tl_definitions.proofs.NextCorner.{find-none_any}
+use Rattle.tl_definitions.specs.Region.{Region, corner_places}
+use Rattle.tl_lists.specs.Lists.{upto}
+use Rattle.tl_lists.proofs.Searches.{find-none_any}
 
 -- the numbers from one on, and from the end on
 pub range-first : (s n : ℕ) → s < n → range_with_len s (n - s) ≡ s ∷ range_with_len (s + 1) (n - (s + 1))

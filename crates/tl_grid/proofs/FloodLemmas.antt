@@ -11,17 +11,20 @@ use Rattle.tl_definitions.specs.declared.Kind.{Kind}
 use Rattle.tl_definitions.specs.declared.Kind.TheVariants.{Square, Triangle}
 use Rattle.tl_definitions.specs.Lattice.{cell_eq, cell_lt, is_cell, neighbours, are_neighbours}
 use Rattle.tl_definitions.specs.Region.{Region, has}
-use Rattle.tl_definitions.specs.Accepted.{AreJoined, linked}
-use Rattle.tl_definitions.specs.RegionText.{InOnePart, IsFirstParted}
-use Rattle.tl_definitions.proofs.Regions.{cell_eq-same, cell_eq-of_parts, has-within, some_same, same_place}
-use Rattle.tl_definitions.proofs.Sublists.{In, In-any, later, linked-tail, cell_lt-irreflexive, cell_lt-transitive}
-use Rattle.tl_definitions.proofs.Partners.{cells-linked, In-has}
+use Rattle.tl_definitions.specs.Accepted.{AreJoined, InOnePart, IsFirstParted}
+use Rattle.tl_lists.specs.Lists.{linked}
+use Rattle.tl_definitions.proofs.Regions.{has-within, same_place}
+use Rattle.tl_definitions.proofs.Cells.{cell_eq-same, cell_eq-of_parts, In-any, cell_lt-irreflexive, cell_lt-transitive, In-has}
+use Rattle.tl_lists.proofs.Tests.{some_same}
+use Rattle.tl_lists.proofs.Members.{In}
+use Rattle.tl_lists.proofs.Orders.{later, linked-tail}
+use Rattle.tl_definitions.proofs.Partners.{cells-linked}
 use Rattle.tl_definitions.proofs.Joined.{joined_here, joined_before, joined_back, closed_has, in_one_part}
 use Rattle.tl_definitions.proofs.Neighbours.{neighbours-back}
-use Rattle.tl_definitions.proofs.NextCorner.{find-none}
+use Rattle.tl_lists.proofs.Searches.{find-none}
 use Rattle.tl_lattice.specs.Places.{padded}
 use Rattle.tl_grid.specs.declared.parts.Flood.{Flood}
-use Rattle.tl_grid.specs.Grid.{flag_at, IsKept}
+use Rattle.tl_grid.specs.Grid.{flag_at, IsGrid}
 use Rattle.tl_grid.specs.Flood.{HasFlags, is_reached, is_waiting, work, Reaches, IsFlood, AreFlagsOfPart}
 use Rattle.tl_grid.proofs.GridLemmas.{place-within, or_false}
 
@@ -64,11 +67,11 @@ reaches_again R b flood set =
     (λ a e h. and_from _ _ h (ap (flag_at R.columns flood.reached.items) (cell_eq-same a b (sym (or_false (cell_eq a b)) ∙ e)) ∙ set))
 
 -- a cell more
-module _ (R : Region) (b : Cell) (old new : Flood) (kept : IsKept R) (inside : has R b ≡ true) (size : HasFlags R old.reached.items)
+module _ (R : Region) (b : Cell) (old new : Flood) (is_grid : IsGrid R) (inside : has R b ≡ true) (size : HasFlags R old.reached.items)
     (unset : flag_at R.columns old.reached.items b ≡ false) (flags : new.reached.items ≡ slice_set old.reached.items (b.r * R.columns + b.c) true)
     (waiting : new.waiting.items ≡ old.waiting.items ++ (b ∷ [])) where
   new-room : b.r * R.columns + b.c < length old.reached.items
-  new-room = omega (arith, place-within R b kept inside, size)
+  new-room = omega (arith, place-within R b is_grid inside, size)
 
   new-work : work new ≡ work old
   new-work =
@@ -82,7 +85,7 @@ module _ (R : Region) (b : Cell) (old new : Flood) (kept : IsKept R) (inside : h
   new-flag : (a : Cell) → has R a ≡ true → flag_at R.columns new.reached.items a ≡ (flag_at R.columns old.reached.items a || cell_eq a b)
   new-flag a h =
       ap (λ (l : List Bool). flag_at R.columns l a) flags
-      ∙ go (has-within R a kept.placed h) (has-within R b kept.placed inside) (cases_eq (a.r * R.columns + a.c) (b.r * R.columns + b.c))
+      ∙ go (has-within R a is_grid.placed h) (has-within R b is_grid.placed inside) (cases_eq (a.r * R.columns + a.c) (b.r * R.columns + b.c))
     where
       go : (a.r < R.rows) × (a.c < R.columns) → (b.r < R.rows) × (b.c < R.columns) → (a.r * R.columns + a.c ≡ b.r * R.columns + b.c) ⊎ (a.r * R.columns + a.c ≡ b.r * R.columns + b.c → ⊥)
           → flag_at R.columns (slice_set old.reached.items (b.r * R.columns + b.c) true) a ≡ (flag_at R.columns old.reached.items a || cell_eq a b)
@@ -346,7 +349,7 @@ find-some p (x ∷ xs) a l e = go (p x) refl e (λ f. find-some p xs a (linked-t
 
 -- ---- what that cell tells
 
-module _ (R : Region) (kept : IsKept R) (flags : List Bool) (part : AreFlagsOfPart R flags) where
+module _ (R : Region) (is_grid : IsGrid R) (flags : List Bool) (part : AreFlagsOfPart R flags) where
   flag-joined : (a : Cell) → has R a ≡ true → not (flag_at R.columns flags a) ≡ false → AreJoined R part.start a
   flag-joined a h e = part.joined a h (not-false _ e)
 
@@ -361,7 +364,7 @@ module _ (R : Region) (kept : IsKept R) (flags : List Bool) (part : AreFlagsOfPa
   parted-some : (a : Cell) → find (λ a. not (flag_at R.columns flags a)) R.cells ≡ Some a → IsFirstParted R a
   parted-some a e =
       let q : In a R.cells × (not (flag_at R.columns flags a) ≡ true) × ((b : Cell) → In b R.cells → cell_lt b a ≡ true → not (flag_at R.columns flags b) ≡ false) =
-      find-some (λ a. not (flag_at R.columns flags a)) R.cells a (cells-linked R kept.placed) e in
+      find-some (λ a. not (flag_at R.columns flags a)) R.cells a (cells-linked R is_grid.placed) e in
       record {
         start = part.start;
         is_start = part.is_start;

@@ -11,9 +11,12 @@ use Rattle.std.proofs.Math.Nat.{mul_comm, mul-le-mul}
 use Rattle.tl_definitions.specs.declared.Cell.{Cell}
 use Rattle.tl_definitions.specs.Lattice.{cell_eq}
 use Rattle.tl_definitions.specs.Region.{Region, has, places}
-use Rattle.tl_definitions.proofs.Regions.{same_test, has-within, cell_eq-parts, cell_eq-of_parts, nat_cases, same_place, length-places}
+use Rattle.tl_definitions.proofs.Regions.{has-within, same_place, length-places}
+use Rattle.tl_definitions.proofs.Cells.{cell_eq-parts, cell_eq-of_parts}
+use Rattle.tl_lists.proofs.Tests.{same_test, nat_cases}
 use Rattle.tl_definitions.specs.Accepted.{IsPlaced}
-use Rattle.tl_grid.specs.Grid.{flag_at, AreFlagsOf, IsKept}
+use Rattle.tl_grid.specs.Grid.{flag_at, AreFlagsOf, IsGrid}
+use Rattle.tl_definitions.specs.Limits.{most_cells}
 
 pub or_true : (b : Bool) → (b || true) ≡ true
 or_true true = refl
@@ -72,7 +75,7 @@ flags_more rows columns cells flags i x d h e xr xc f =
 -- ---- the cells of a grid
 
 -- there are few
-pub few_cells : (R : Region) → IsKept R → length R.cells ≤ 262144
+pub few_cells : (R : Region) → IsGrid R → length R.cells ≤ most_cells
 few_cells R k =
     let count : length R.cells ≤ R.rows * R.columns = few R.cells k.placed in
     omega (arith, count, mul-le-mul k.rows_within k.columns_within)
@@ -81,7 +84,7 @@ few_cells R k =
     few cells e = omega (arith, ap length e, length-filter (has R) (places R.rows R.columns), count_by-le-length (has R) (places R.rows R.columns), length-places R.rows R.columns 0)
 
 -- no place outside the rectangle is in the region
-pub has-outside : (R : Region) (a : Cell) → IsKept R → ¬ ((a.r < R.rows) × (a.c < R.columns)) → has R a ≡ false
+pub has-outside : (R : Region) (a : Cell) → IsGrid R → ¬ ((a.r < R.rows) × (a.c < R.columns)) → has R a ≡ false
 has-outside R a k out = false_from_ne_true _ (λ e. out (has-within R a k.placed e))
 
 -- each cell is within the rectangle
@@ -97,7 +100,7 @@ pub not_zero : (n : ℕ) (b : Bool) → b ≡ (n == 0) → b ≡ false → n ≢
 not_zero n b e f z = cc (ap (λ (m : ℕ). m == 0) z, e, f)
 
 -- the place of a cell of the region is one of the rectangle's
-pub place-within : (R : Region) (a : Cell) → IsKept R → has R a ≡ true → a.r * R.columns + a.c < R.rows * R.columns
+pub place-within : (R : Region) (a : Cell) → IsGrid R → has R a ≡ true → a.r * R.columns + a.c < R.rows * R.columns
 place-within R a k e =
     let p : (a.r < R.rows) × (a.c < R.columns) = has-within R a k.placed e in
     omega (arith, mul-add-lt a.r R.columns a.c R.rows p.0 p.1, mul_comm R.columns R.rows)

@@ -10,7 +10,7 @@ use Rattle.std.proofs.Math.Nat.{mul_comm}
 use Rattle.tl_definitions.specs.declared.Corner.{Corner}
 use Rattle.tl_definitions.specs.Lattice.{corner_eq}
 use Rattle.tl_definitions.specs.Region.{Region}
-use Rattle.tl_definitions.proofs.Regions.{same_test, nat_cases}
+use Rattle.tl_lists.proofs.Tests.{same_test, nat_cases}
 use Rattle.tl_definitions.proofs.Corners.{corner_eq-same, corner_eq-refl, same_place}
 use Rattle.tl_grid.specs.declared.corner_marks.CornerMarks.{CornerMarks}
 use Rattle.tl_grid.specs.CornerMarks.{is_marked, FitMarks, AreMarked}

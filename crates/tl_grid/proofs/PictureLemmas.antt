@@ -5,12 +5,10 @@ use Rattle.std.specs.List.{list_any, range_with_len}
 use Rattle.tl_definitions.specs.declared.Cell.{Cell}
 use Rattle.tl_definitions.specs.declared.Kind.{Kind}
 use Rattle.tl_definitions.specs.Lattice.{cell, cell_eq}
-use Rattle.tl_definitions.specs.Region.{places}
+use Rattle.tl_definitions.specs.Region.{places, row_part}
 use Rattle.tl_definitions.specs.Accepted.{IsPlaced}
-use Rattle.tl_definitions.specs.RegionText.{is_byte}
-use Rattle.tl_definitions.specs.Marks.{row_part}
-use Rattle.tl_definitions.proofs.Raster.{filter-places}
-use Rattle.tl_definitions.proofs.RegionTexts.{filter-placed}
+use Rattle.tl_lists.specs.Lists.{is_byte}
+use Rattle.tl_definitions.proofs.Raster.{filter-places, filter-placed}
 use Rattle.tl_grid.proofs.CornerScans.{range-first, range-none}
 
 -- whether a `#` stands at the place of a cell

@@ -8,14 +8,13 @@ use Rattle.tl_definitions.specs.Lattice.{corner_eq, is_corner, Side}
 use Rattle.tl_definitions.specs.Region.{Region, corner_places, boundary}
 use Rattle.tl_definitions.specs.Accepted.{IsPlaced, is_pinch, circuit_corners, IsCircuit}
 use Rattle.tl_definitions.specs.Boundary.{side_from, is_boundary_corner, IsClosedWalk}
-use Rattle.tl_definitions.proofs.Sublists.{In, In-any_of}
+use Rattle.tl_lists.proofs.Members.{In, In-any_of}
 use Rattle.tl_definitions.proofs.CornerPlaces.{In-corner_places}
 use Rattle.tl_definitions.proofs.BoundarySides.{boundary-corners}
-use Rattle.tl_definitions.proofs.NextCorner.{find-In, find-none, none-find}
+use Rattle.tl_lists.proofs.Searches.{find-In, find-none, none-find, find-same}
 use Rattle.tl_definitions.proofs.Walks.{corner-In, In-corner, map-push, IsWalk, walk-start, walk-more, walk-closes}
 use Rattle.tl_definitions.proofs.Circuits.{boundary-within, boundary-places, no_pinch-sides, from-boundary, boundary-from, IsFirstBoundaryCorner, PassesAll, closed-circuit, circuit-passes, no_corner-circuit}
 use Rattle.tl_definitions.proofs.Corners.{corner_eq-same, corner_eq-refl}
-use Rattle.tl_definitions.proofs.Drawings.{find-same}
 use Rattle.tl_grid.specs.declared.corner_marks.CornerMarks.{CornerMarks}
 use Rattle.tl_grid.specs.CornerMarks.{is_marked, AreMarked}
 use Rattle.tl_grid.proofs.MarkLemmas.{marks-more}

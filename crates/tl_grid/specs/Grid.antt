@@ -5,6 +5,7 @@ use Rattle.tl_definitions.specs.declared.Cell.{Cell}
 use Rattle.tl_definitions.specs.Lattice.{cell_eq}
 use Rattle.tl_definitions.specs.Region.{Region}
 use Rattle.tl_definitions.specs.Accepted.{IsPlaced}
+use Rattle.tl_definitions.specs.declared.TheConstants.{SIDE_LIMIT}
 
 -- whether the flag of a place is set
 abbrev pub flag_at : ℕ → List Bool → Cell → Bool
@@ -16,9 +17,9 @@ pub record AreFlagsOf (rows columns : ℕ) (cells : List Cell) (flags : List Boo
   pub is_set : (a : Cell) → a.r < rows → a.c < columns → flag_at columns flags a ≡ list_any (cell_eq a) cells
 
 -- What holds of every grid: its cells stand in raster order, each once, within its rows and columns; there is
--- one; and there are at most 512 rows and 512 columns.
-pub record IsKept (R : Region) : Type 0 where
+-- one; and there are no more rows or columns than a region may have.
+pub record IsGrid (R : Region) : Type 0 where
   pub placed : IsPlaced R
   pub nonempty : R.cells ≢ []
-  pub rows_within : R.rows ≤ 512
-  pub columns_within : R.columns ≤ 512
+  pub rows_within : R.rows ≤ SIDE_LIMIT
+  pub columns_within : R.columns ≤ SIDE_LIMIT

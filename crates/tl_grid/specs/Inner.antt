@@ -4,10 +4,11 @@ use Rattle.tl_definitions.specs.declared.Corner.{Corner}
 use Rattle.tl_definitions.specs.Lattice.{corner_eq}
 use Rattle.tl_definitions.specs.Region.{Region, is_inner, inner_corners}
 use Rattle.tl_grid.specs.declared.inner.Inner.{Inner}
+use Rattle.tl_definitions.specs.declared.TheConstants.{NO_NUMBER}
 
 -- the number of a corner in a list of corners, or 2^32 - 1 where it isn't in it
 abbrev pub number_in : List Corner → Corner → ℕ
-number_in corners v = unwrap_or (position (corner_eq v) corners) 4294967295
+number_in corners v = unwrap_or (position (corner_eq v) corners) NO_NUMBER
 
 -- the inner corners, and the number of each place of rows + 1 rows and columns + 2 columns, row by row
 pub record IsInnerOf (R : Region) (inner : Inner) : Type 0 where

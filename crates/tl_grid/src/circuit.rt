@@ -7,7 +7,7 @@ ghost use Rattle.tl_definitions.specs.Region.{corner_places};
 ghost use Rattle.tl_definitions.specs.Accepted.{is_pinch, circuit_corners, IsCircuit};
 ghost use Rattle.tl_definitions.specs.Darts.{other_end as other_end_of};
 ghost use Rattle.tl_definitions.specs.Boundary.{side_from, is_boundary_corner as is_boundary_corner_of, IsClosedWalk};
-ghost use Rattle.tl_grid.specs.Grid.{IsKept};
+ghost use Rattle.tl_grid.specs.Grid.{IsGrid};
 ghost use Rattle.tl_grid.specs.Sides.{side_of};
 ghost use Rattle.tl_grid.specs.CornerMarks.{is_marked, AreMarked, FitMarks};
 
@@ -15,8 +15,8 @@ use crate::corner_marks::CornerMarks;
 use crate::grid::Grid;
 use crate::rings::{first_exit, is_corner};
 use std::alloc::{AllocError, Global};
-use tl_definitions::Dart;
-use tl_lattice::{Cell, Corner, Kind};
+use tl_definitions::{COORDINATE_LIMIT, Dart};
+use tl_lattice::{Cell, Corner, Kind, cell_width};
 
 /// A side of a cell that is a side of no other cell of the region, in the direction that has the region on its left.
 #[derive(Clone, Copy, Debug, PartialEq, Eq)]
@@ -28,20 +28,16 @@ pub struct BoundarySide {
 
 // The other end of the dart.
 fn other_end(kind: Kind, corner: Corner, dart: Dart) -> Corner
-    requires row { corner.r ≤ 2 ^ 20 }
-    requires column { corner.x ≤ 2 ^ 20 }
+    requires row { corner.r ≤ COORDINATE_LIMIT }
+    requires column { corner.x ≤ COORDINATE_LIMIT }
     ensures { result ≡ other_end_of kind corner dart }
 {
-    let width = match kind {
-        Kind::Square => 1,
-        Kind::Triangle => 2,
-    };
     let Dart { left, right } = dart;
     Corner {
         r: (corner.r + 1)
             .saturating_sub(left.rows)
             .saturating_sub(right.rows),
-        x: (corner.x + width)
+        x: (corner.x + cell_width(kind))
             .saturating_sub(left.columns)
             .saturating_sub(right.columns),
     }
@@ -49,8 +45,8 @@ fn other_end(kind: Kind, corner: Corner, dart: Dart) -> Corner
 
 /// The boundary side that leaves the corner with the region on its left.
 pub fn side_out(grid: &Grid, corner: Corner) -> Option<BoundarySide>
-    requires row { corner.r ≤ 2 ^ 20 }
-    requires column { corner.x ≤ 2 ^ 20 }
+    requires row { corner.r ≤ COORDINATE_LIMIT }
+    requires column { corner.x ≤ COORDINATE_LIMIT }
     requires is_corner { IsTrue (is_corner_of_kind grid.now.kind corner) }
     requires no_pinch { IsFalse (is_pinch grid.now corner) }
     ensures { option_map side_of result ≡ side_from grid.now corner }
@@ -95,7 +91,8 @@ fn is_unmarked(grid: &Grid, marks: &CornerMarks, corner: Corner) -> bool
 // The first boundary corner in raster order without a mark.
 fn first_unmarked(grid: &Grid, marks: &CornerMarks) -> Option<Corner>
     requires { FitMarks grid.now marks.now }
-    ensures { result ≡ find (λ v. is_boundary_corner_of grid.now v && not (is_marked marks.now v)) (corner_places grid.now) }
+    ensures { result ≡ find (λ v. is_boundary_corner_of grid.now v && not (is_marked marks.now v))
+        (corner_places grid.now) }
 {
     for r in 0..grid.rows() + 1 {
         for x in 0..grid.columns() + 2 {
@@ -110,11 +107,12 @@ fn first_unmarked(grid: &Grid, marks: &CornerMarks) -> Option<Corner>
 
 // Goes along the boundary, with the region on the left, and marks each corner, until it comes to a marked one.
 fn walk(grid: &Grid, start: Corner, marks: &mut CornerMarks)
-    requires kept { IsKept grid.now }
+    requires is_grid { IsGrid grid.now }
     requires no_pinch { IsFalse (list_any (is_pinch grid.now) (corner_places grid.now)) }
     requires start { IsTrue (is_boundary_corner_of grid.now start) }
     requires unmarked { AreMarked grid.now marks.old [] }
-    ensures { (walk : List Side) × IsClosedWalk grid.now start walk × AreMarked grid.now marks.new (circuit_corners walk) }
+    ensures { (walk : List Side) × IsClosedWalk grid.now start walk
+        × AreMarked grid.now marks.new (circuit_corners walk) }
 {
     let mut corner = start;
     while !marks.has(corner) {

@@ -4,6 +4,7 @@ ghost use Rattle.std.specs.Prelude.{◌≡◌, ◌+◌, ◌*◌, ◌<◌, ◌≤
 ghost use Rattle.tl_grid.specs.Grid.{AreFlagsOf};
 
 use std::alloc::{AllocError, Global};
+use tl_definitions::SIDE_LIMIT;
 use tl_lattice::Cell;
 
 /// The flags of `rows * columns` places, row by row, set where the place is one of the cells.
@@ -13,8 +14,8 @@ pub fn flags_of(
     columns: u32,
     cells: &[Cell],
 ) -> Result<Vec<bool>, AllocError>
-    requires rows { rows ≤ 512 }
-    requires columns { columns ≤ 512 }
+    requires rows { rows ≤ SIDE_LIMIT }
+    requires columns { columns ≤ SIDE_LIMIT }
     requires within { All (λ a. (a.r < rows) × (a.c < columns)) cells.now }
     ensures { IfOk result (λ flags. AreFlagsOf rows columns cells.now flags.items) }
 {

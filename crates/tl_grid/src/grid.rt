@@ -2,13 +2,13 @@
 
 ghost use Rattle.std.specs.Prelude.{◌≡◌, ◌<◌, ◌+◌, ◌*◌, true, length, slice_get};
 ghost use Rattle.tl_definitions.specs.Region.{has};
-ghost use Rattle.tl_grid.specs.Grid.{IsKept};
+ghost use Rattle.tl_grid.specs.Grid.{IsGrid};
 
 use std::marker::Model;
 use tl_lattice::{Cell, Kind};
 
-/// Finitely many cells of one lattice: at least one, in at most 512 rows and 512 columns. A look-up of a cell
-/// takes constant time. Clauses see it as a region of the definitions, which need not be accepted.
+/// Finitely many cells of one lattice: at least one, in at most `SIDE_LIMIT` rows and columns. Clauses see it as a
+/// region of the definitions, which need not be accepted.
 #[derive(Drop)]
 pub struct Grid {
     kind: Kind,
@@ -20,13 +20,13 @@ pub struct Grid {
 
 impl Model for Grid {
     ghost use Rattle.tl_definitions.specs.Region as shape;
-    ghost use Rattle.tl_grid.specs.Grid.{IsKept, AreFlagsOf};
+    ghost use Rattle.tl_grid.specs.Grid.{IsGrid, AreFlagsOf};
 
     ghost Value = { shape.Region };
 
     ghost view = { λ s. record { kind = s.kind; rows = s.rows; columns = s.columns; cells = s.cells.items } };
 
-    ghost invariant = { λ s. IsKept (record { kind = s.kind; rows = s.rows; columns = s.columns; cells = s.cells.items }) × AreFlagsOf s.rows s.columns s.cells.items s.inside.items };
+    ghost invariant = { λ s. IsGrid (record { kind = s.kind; rows = s.rows; columns = s.columns; cells = s.cells.items }) × AreFlagsOf s.rows s.columns s.cells.items s.inside.items };
 }
 
 impl Grid {
@@ -40,7 +40,7 @@ impl Grid {
         cells: Vec<Cell>,
         inside: Vec<bool>,
     ) -> Grid
-        requires kept { IsKept (record { kind = kind; rows = rows; columns = columns; cells = cells.items }) }
+        requires is_grid { IsGrid (record { kind = kind; rows = rows; columns = columns; cells = cells.items }) }
         requires flags { AreFlagsOf rows columns cells.items inside.items }
         ensures { result ≡ record { kind = kind; rows = rows; columns = columns; cells = cells.items } }
     {
@@ -56,7 +56,7 @@ impl Grid {
     /// The lattice of the cells.
     pub fn kind(&self) -> Kind
         ensures kind { result ≡ self.now.kind }
-        ensures kept { IsKept self.now }
+        ensures is_grid { IsGrid self.now }
     {
         self.kind
     }
@@ -64,7 +64,7 @@ impl Grid {
     /// The number of rows. Each cell is in one of them.
     pub fn rows(&self) -> u32
         ensures rows { result ≡ self.now.rows }
-        ensures kept { IsKept self.now }
+        ensures is_grid { IsGrid self.now }
     {
         self.rows
     }
@@ -72,7 +72,7 @@ impl Grid {
     /// The number of columns. Each cell is in one of them.
     pub fn columns(&self) -> u32
         ensures columns { result ≡ self.now.columns }
-        ensures kept { IsKept self.now }
+        ensures is_grid { IsGrid self.now }
     {
         self.columns
     }
@@ -80,7 +80,7 @@ impl Grid {
     /// The number of cells.
     pub fn cell_count(&self) -> u32
         ensures count { result ≡ length self.now.cells }
-        ensures kept { IsKept self.now }
+        ensures is_grid { IsGrid self.now }
     {
         self.cells.len() as u32
     }
@@ -96,7 +96,7 @@ impl Grid {
     /// The cells, in raster order.
     pub fn cells(&self) -> &[Cell]
         ensures cells { result.now ≡ self.now.cells }
-        ensures kept { IsKept self.now }
+        ensures is_grid { IsGrid self.now }
     {
         self.cells.as_slice()
     }
@@ -106,7 +106,7 @@ impl Grid {
         requires { has self.now cell ≡ true }
         ensures place { result ≡ cell.r * self.now.columns + cell.c }
         ensures within { result < self.now.rows * self.now.columns }
-        ensures kept { IsKept self.now }
+        ensures is_grid { IsGrid self.now }
     {
         cell.r as usize * self.columns as usize + cell.c as usize
     }

@@ -3,15 +3,13 @@
 ghost use Rattle.std.specs.Prelude.{◌≡◌, ◌<◌, ◌≤◌, ◌^◌, ◌++◌, ◌∷◌, [], length, position, if◌then◌else◌, OnOk, IfOk};
 ghost use Rattle.tl_definitions.specs.Lattice.{corner_eq, is_corner as is_corner_of_kind};
 ghost use Rattle.tl_definitions.specs.Region.{has_at as has_cell_at, is_inner as is_inner_corner, inner_corners};
-ghost use Rattle.tl_grid.specs.Grid.{IsKept};
+ghost use Rattle.tl_grid.specs.Grid.{IsGrid};
 ghost use Rattle.tl_grid.specs.Inner.{IsInnerOf};
 
 use crate::grid::Grid;
 use std::alloc::{AllocError, Global};
+use tl_definitions::{COORDINATE_LIMIT, NO_NUMBER};
 use tl_lattice::{Cell, Corner, Kind, ring};
-
-/// What stands in the place of a number where there is no inner corner.
-const NO_NUMBER: u32 = u32::MAX;
 
 /// The inner corners in raster order, and a number for each place that a corner may have, row by row.
 #[derive(Drop)]
@@ -24,8 +22,11 @@ impl Inner {
     // Adds the next place.
     fn add(&mut self, corner: Corner, is_inner: bool) -> Result<(), AllocError>
         requires { length self.old.corners.items < 2 ^ 32 }
-        ensures corners { OnOk result (self.new.corners.items ≡ (if is_inner then self.old.corners.items ++ (corner ∷ []) else self.old.corners.items)) }
-        ensures numbers { OnOk result (self.new.numbers.items ≡ self.old.numbers.items ++ ((if is_inner then length self.old.corners.items else 4294967295) ∷ [])) }
+        ensures corners { OnOk result (self.new.corners.items
+            ≡ (if is_inner then self.old.corners.items ++ (corner ∷ []) else self.old.corners.items)) }
+        ensures numbers { OnOk result (self.new.numbers.items
+            ≡ self.old.numbers.items
+            ++ ((if is_inner then length self.old.corners.items else NO_NUMBER) ∷ [])) }
     {
         if is_inner {
             self.numbers.push(self.corners.len() as u32)?;
@@ -55,8 +56,8 @@ impl Inner {
 }
 
 fn is_corner(kind: Kind, corner: Corner) -> bool
-    requires row { corner.r ≤ 2 ^ 20 }
-    requires column { corner.x ≤ 2 ^ 20 }
+    requires row { corner.r ≤ COORDINATE_LIMIT }
+    requires column { corner.x ≤ COORDINATE_LIMIT }
     ensures { result ≡ is_corner_of_kind kind corner }
 {
     match kind {
@@ -76,8 +77,8 @@ fn has_at(grid: &Grid, cell: Option<Cell>) -> bool
 
 // Whether the whole ring of the corner is in the region.
 fn is_inner(grid: &Grid, corner: Corner) -> bool
-    requires row { corner.r ≤ 2 ^ 20 }
-    requires column { corner.x ≤ 2 ^ 20 }
+    requires row { corner.r ≤ COORDINATE_LIMIT }
+    requires column { corner.x ≤ COORDINATE_LIMIT }
     ensures { result ≡ is_inner_corner grid.now corner }
 {
     if !is_corner(grid.kind(), corner) {
@@ -92,7 +93,7 @@ fn is_inner(grid: &Grid, corner: Corner) -> bool
 /// The inner corners of the region.
 pub fn inner_of(alloc: Global, grid: &Grid) -> Result<Inner, AllocError>
     ensures inner { IfOk result (IsInnerOf grid.now) }
-    ensures kept { IsKept grid.now }
+    ensures is_grid { IsGrid grid.now }
 {
     let places = (grid.rows() as usize + 1) * (grid.columns() as usize + 2);
     let mut inner = Inner {

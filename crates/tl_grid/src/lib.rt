@@ -19,6 +19,7 @@ pub use grid::Grid;
 pub use inner::{Inner, inner_of};
 pub use parts::first_parted;
 pub use pinch::first_pinch;
+pub use rings::is_step;
 
 #[cfg(test)]
 mod rule_tests;

@@ -3,8 +3,8 @@
 ghost use Rattle.std.specs.Prelude.{◌≡◌, ◌∷◌, [], true, not, find, Some, IfOk, OnOk, MatchOption};
 ghost use Rattle.tl_definitions.specs.Lattice.{neighbours as neighbours_of};
 ghost use Rattle.tl_definitions.specs.Region.{has};
-ghost use Rattle.tl_definitions.specs.RegionText.{InOnePart, IsFirstParted};
-ghost use Rattle.tl_grid.specs.Grid.{flag_at, IsKept};
+ghost use Rattle.tl_definitions.specs.Accepted.{InOnePart, IsFirstParted};
+ghost use Rattle.tl_grid.specs.Grid.{flag_at, IsGrid};
 ghost use Rattle.tl_grid.specs.Flood.{HasFlags, Reaches, AreFlagsOfPart};
 
 use crate::grid::Grid;
@@ -69,7 +69,7 @@ fn flags_of_part(alloc: Global, grid: &Grid) -> Result<Vec<bool>, AllocError>
 fn first_without(grid: &Grid, flags: &[bool]) -> Option<Cell>
     requires { HasFlags grid.now flags.now }
     ensures first { result ≡ find (λ a. not (flag_at grid.now.columns flags.now a)) grid.now.cells }
-    ensures kept { IsKept grid.now }
+    ensures is_grid { IsGrid grid.now }
 {
     for cell in grid.cells() {
         if !flags[grid.place(*cell)] {

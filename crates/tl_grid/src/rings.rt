@@ -3,12 +3,12 @@
 ghost use Rattle.std.specs.Prelude.{◌≡◌, ◌&&◌, count_by, find};
 ghost use Rattle.std.specs.List.{list_any};
 ghost use Rattle.tl_definitions.specs.Lattice.{is_corner as is_corner_of_kind, cell_back};
-ghost use Rattle.tl_definitions.specs.Region.{has_at};
-ghost use Rattle.tl_definitions.specs.Darts.{darts as darts_of, left_cell, right_cell, enters as enters_by, leaves as leaves_by, is_outward as is_outward_of, is_edge_of};
+ghost use Rattle.tl_definitions.specs.Region.{has_at, is_step as is_step_of};
+ghost use Rattle.tl_definitions.specs.Darts.{darts as darts_of, left_cell, right_cell, enters as enters_by, leaves as leaves_by, is_outward as is_outward_of, is_edge_of, leads_to as leads_to_of, is_step_by as is_step_by_of};
 
 use crate::grid::Grid;
 use tl_definitions::{Back, Dart};
-use tl_lattice::{Cell, Corner, Kind};
+use tl_lattice::{Cell, Corner, Kind, cell_width};
 
 // The places of a ring: in the row above the corner and in its own row, so many columns back.
 const ABOVE_2: Back = Back {
@@ -178,9 +178,45 @@ fn is_edge(grid: &Grid, corner: Corner, dart: Dart) -> bool
     is_inside(grid, corner, dart.left) || is_inside(grid, corner, dart.right)
 }
 
+// Whether the edge leads from the corner to the other one.
+fn leads_to(kind: Kind, corner: Corner, dart: Dart, other: Corner) -> bool
+    ensures { result ≡ leads_to_of kind corner dart other }
+{
+    let Dart { left, right } = dart;
+    let rows = u64::from(left.rows) + u64::from(right.rows);
+    let columns = u64::from(left.columns) + u64::from(right.columns);
+    u64::from(corner.r) + 1 == u64::from(other.r) + rows
+        && u64::from(corner.x) + u64::from(cell_width(kind)) == u64::from(other.x) + columns
+}
+
+// Whether a directed step of the region leads from the one corner to the other along the dart.
+fn is_step_by(grid: &Grid, from: Corner, to: Corner, dart: Dart) -> bool
+    ensures { result ≡ is_step_by_of grid.now from to dart }
+{
+    is_outward(from, dart) && leads_to(grid.kind(), from, dart, to) && is_edge(grid, from, dart)
+}
+
+// Whether one does along some dart.
+fn is_step_by_some(grid: &Grid, from: Corner, to: Corner) -> bool
+    ensures { result ≡ list_any (is_step_by_of grid.now from to) (darts_of grid.now.kind) }
+{
+    darts(grid.kind())
+        .iter()
+        .any(|dart| is_step_by(grid, from, to, *dart))
+}
+
+/// Whether a directed step leads from the one corner to the other, along an edge of a cell and with the dark cell on
+/// its left. Any two pairs may be asked for.
+pub fn is_step(grid: &Grid, from: Corner, to: Corner) -> bool
+    ensures { result ≡ is_step_of grid.now from to }
+{
+    is_corner(grid.kind(), from) && is_step_by_some(grid, from, to)
+}
+
 /// How many directed steps along edges of the region go out from the corner.
 pub fn step_count(grid: &Grid, corner: Corner) -> usize
-    ensures { result ≡ count_by (λ g. is_outward_of corner g && is_edge_of grid.now corner g) (darts_of grid.now.kind) }
+    ensures { result ≡ count_by (λ g. is_outward_of corner g && is_edge_of grid.now corner g)
+        (darts_of grid.now.kind) }
 {
     darts(grid.kind())
         .iter()

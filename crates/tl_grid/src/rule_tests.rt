@@ -2,10 +2,11 @@
 
 ghost use Rattle.std.specs.Prelude.{◌≡◌, ◌≤◌, ◌+◌, ◌*◌, slice_get, filter, IfOk};
 ghost use Rattle.tl_definitions.specs.Region.{places};
-ghost use Rattle.tl_definitions.specs.RegionText.{is_byte};
+ghost use Rattle.tl_lists.specs.Lists.{is_byte};
 
 use crate::{Grid, first_parted, first_pinch, flags_of, has_euler_one, has_one_circuit, inner_of};
 use std::alloc::{AllocError, Global};
+use tl_definitions::SIDE_LIMIT;
 use tl_lattice::{Cell, Corner, Kind};
 
 fn has_hash(picture: &[u8], place: usize) -> bool
@@ -19,9 +20,10 @@ fn has_hash(picture: &[u8], place: usize) -> bool
 
 // The cells of a picture whose rows stand one after another, with a byte between two of them.
 fn cells_of(alloc: Global, rows: u32, columns: u32, picture: &[u8]) -> Result<Vec<Cell>, AllocError>
-    requires rows { rows ≤ 512 }
-    requires columns { columns ≤ 512 }
-    ensures { IfOk result (λ cells. cells.items ≡ filter (λ a. is_byte 35 (slice_get picture.now (a.r * (columns + 1) + a.c))) (places rows columns)) }
+    requires rows { rows ≤ SIDE_LIMIT }
+    requires columns { columns ≤ SIDE_LIMIT }
+    ensures { IfOk result (λ cells. cells.items ≡ filter
+        (λ a. is_byte 35 (slice_get picture.now (a.r * (columns + 1) + a.c))) (places rows columns)) }
 {
     let mut cells = Vec::new(alloc);
     for r in 0..rows {
@@ -41,11 +43,11 @@ fn grid_of(alloc: Global, kind: Kind, picture: &[u8]) -> Result<Option<Grid>, Al
         .iter()
         .position(|byte| *byte == b' ')
         .unwrap_or(picture.len());
-    if columns > 512 {
+    if columns > SIDE_LIMIT as usize {
         return Ok(None);
     }
     let rows = picture.len().div_ceil(columns + 1);
-    if rows > 512 {
+    if rows > SIDE_LIMIT as usize {
         return Ok(None);
     }
     let (rows, columns) = (rows as u32, columns as u32);

@@ -5,17 +5,17 @@ use Rattle.tl_definitions.specs.declared.Kind.TheVariants.{Square}
 use Rattle.tl_definitions.specs.declared.Tile.{Tile}
 use Rattle.tl_definitions.specs.Lattice.{cell, corner}
 use Rattle.tl_definitions.specs.Region.{Region}
-use Rattle.tl_definitions.specs.RegionText.{region_of, IsRegionText, RegionRefusal}
+use Rattle.tl_formats.specs.RegionText.{region_of, IsRegionText, RegionRefusal}
 use Rattle.tl_definitions.specs.Accepted.{Accepted, IsCircuit}
-use Rattle.tl_definitions.specs.Drawing.{drawing}
+use Rattle.tl_formats.specs.Drawing.{drawing}
 use Rattle.tl_definitions.specs.Heights.{height, AreHeights, AreLawful}
-use Rattle.tl_definitions.proofs.Cases.{drawn, walk_of}
+use Rattle.tl_formats.proofs.Cases.{drawn, walk_of}
 use Rattle.tl_definitions.proofs.Decide.{one_part}
 use Rattle.tl_closing.proofs.Crossed.{same-heights}
 use Rattle.tl_closing.proofs.Heights.{heights-lawful}
 use Rattle.tl_height.proofs.HeightsBy.{heights-by}
 use Rattle.tl_height.specs.declared.standing.Standing.TheVariants.{High, Low, No}
-use Rattle.tl_height.specs.HeightFunction.{falls_between, put_at}
+use Rattle.tl_height.specs.HeightFunction.{falls_between}
 use Rattle.tl_height.specs.Standing.{standing}
 use Rattle.tl_height.specs.Letters.{IsDrawnFrom}
 
@@ -108,11 +108,6 @@ two_three = region_of Square (codes "###" ∷ codes "###" ∷ [])
 
 neither_stands : standing two_three (drawn two_three (codes "v><" ∷ codes "^><" ∷ [])) (corner 1 1) ≡ No
 neither_stands = refl
-
--- ---- putting numbers
-
-put_in_the_middle : put_at 1 (pos 7 ∷ pos 8 ∷ []) (pos 0 ∷ pos 1 ∷ pos 2 ∷ pos 3 ∷ []) ≡ pos 0 ∷ pos 7 ∷ pos 8 ∷ pos 3 ∷ []
-put_in_the_middle = refl
 
 -- ---- falls
 

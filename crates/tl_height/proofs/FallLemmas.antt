@@ -5,7 +5,7 @@ use Rattle.std.proofs.lemmas.Int.{ints, to_z-of_z}
 use mir.Val.{SFits}
 use Rattle.tl_definitions.specs.declared.Kind.{Kind}
 use Rattle.tl_definitions.specs.declared.Kind.TheVariants.{Square, Triangle}
-use Rattle.tl_definitions.specs.Heights.{rise}
+use Rattle.tl_definitions.specs.Lattice.{rise}
 use Rattle.tl_height.specs.HeightFunction.{falls_between}
 
 -- by the difference of the heights

@@ -12,15 +12,14 @@ use Rattle.tl_definitions.specs.declared.Kind.TheVariants.{Square, Triangle}
 use Rattle.tl_definitions.specs.declared.Cell.{Cell}
 use Rattle.tl_definitions.specs.declared.Corner.{Corner}
 use Rattle.tl_definitions.specs.declared.Tile.{Tile}
-use Rattle.tl_definitions.specs.Lattice.{cell, corner, corner_eq, is_cell}
+use Rattle.tl_definitions.specs.Lattice.{cell, corner, corner_eq, is_cell, rise, cell_width}
 use Rattle.tl_definitions.specs.Region.{Region, is_inner}
 use Rattle.tl_definitions.specs.Accepted.{Accepted}
-use Rattle.tl_definitions.specs.Darts.{cell_width}
 use Rattle.tl_definitions.specs.Tiling.{is_tiling, partner}
-use Rattle.tl_definitions.specs.Heights.{rise, height, AreHeights}
-use Rattle.tl_definitions.proofs.Regions.{same_test}
-use Rattle.tl_definitions.proofs.NextCorner.{find-In, find-none_any}
-use Rattle.tl_definitions.proofs.InnerNumbers.{position-some, position-missing}
+use Rattle.tl_definitions.specs.Heights.{height, AreHeights}
+use Rattle.tl_lists.proofs.Tests.{same_test}
+use Rattle.tl_lists.proofs.Searches.{find-In, find-none_any}
+use Rattle.tl_lists.proofs.Positions.{position-some, position-missing}
 use Rattle.tl_definitions.proofs.Corners.{corner_eq-same}
 use Rattle.tl_closing.proofs.Filling.{leads_right, upper_cell, lower_cell, left_corner, climb_between, rise_from_left, FromLeft, fill-inner, StandsAt, fill-place}
 use Rattle.tl_closing.proofs.Heights.{has-heights}

@@ -8,7 +8,7 @@ use Rattle.tl_definitions.specs.Lattice.{Side}
 use Rattle.tl_definitions.specs.Region.{Region}
 use Rattle.tl_definitions.specs.Accepted.{Accepted, IsCircuit, circuit_corners}
 use Rattle.tl_definitions.specs.Heights.{height, climb, AreHeights, AreHeightsOf}
-use Rattle.tl_definitions.proofs.Sublists.{In, Each, Each-at}
+use Rattle.tl_lists.proofs.Members.{In, Each, Each-at}
 use Rattle.tl_closing.specs.Closing.{steps_round}
 use Rattle.tl_closing.proofs.Edges.{Step, edges, In-edges, is_step-parts}
 use Rattle.tl_closing.proofs.Numbers.{numbers_of, numbers_of-heights}

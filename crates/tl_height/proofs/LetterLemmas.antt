@@ -10,25 +10,43 @@ use Rattle.tl_definitions.specs.declared.Tile.{Tile}
 use Rattle.tl_definitions.specs.Lattice.{corner, cell_eq, is_dark, corners, side, sides}
 use Rattle.tl_definitions.specs.Region.{Region, has, is_corner_of}
 use Rattle.tl_definitions.specs.Tiling.{covers, is_tiling, other_cell, partner}
-use Rattle.tl_definitions.specs.Drawing.{letter}
+use Rattle.tl_formats.specs.Drawing.{letter}
 use Rattle.tl_definitions.specs.Heights.{height, AreHeights}
-use Rattle.tl_definitions.proofs.Regions.{cell_eq-same}
-use Rattle.tl_definitions.proofs.Sublists.{In, In-map, cell_eq-refl}
-use Rattle.tl_definitions.proofs.Ordered.{Only, find-only}
-use Rattle.tl_definitions.proofs.Drawings.{letter-named}
+use Rattle.tl_definitions.proofs.Cells.{cell_eq-same, cell_eq-refl}
+use Rattle.tl_lists.proofs.Members.{In, In-map}
+use Rattle.tl_lists.proofs.Counts.{Only}
+use Rattle.tl_lists.proofs.Searches.{find-only, none-find}
+use Rattle.tl_formats.proofs.Drawings.{letter-named}
 use Rattle.tl_definitions.proofs.Tilings.{TilingParts, tiling-parts}
-use Rattle.tl_definitions.proofs.NextCorner.{none-find}
 use Rattle.tl_closing.specs.Closing.{step_along, steps_round}
 use Rattle.tl_closing.proofs.Sides.{directed, SameStep, same_step}
 use Rattle.tl_closing.proofs.Centres.{IsCentre, round-centre, cell-one, cell-two}
 use Rattle.tl_closing.proofs.Edges.{Step, has-In, In-has, round-step, is_step-from, corner_of-from}
 use Rattle.tl_closing.proofs.Crossed.{is_crossed, crossed-parts, IsAcross, IsCrossing, one-crossed, covers-cases, covers-from}
-use Rattle.tl_closing.proofs.Ring.{up_sides, down_sides, among-up, among-down, over-right, over-bottom, over-left, over-top}
+use Rattle.tl_closing.proofs.Ring.{up_sides, down_sides, among-up, among-down}
 use Rattle.tl_closing.proofs.Near.{right-is, left-is, above-is, below-is}
 use Rattle.tl_height.specs.declared.sides.Ends.{Ends}
 use Rattle.tl_height.specs.HeightFunction.{falls_between}
 use Rattle.tl_height.specs.Letters.{ends_of}
 use Rattle.tl_height.proofs.FallLemmas.{crossed-falls, level-rests}
+
+-- ---- the cell across a side of a square, by the side
+
+over-right : (t : Bool) (r c r' c' : ℕ) → IsCentre Square (not t) r' c' (directed t (corner (r + 1) (c + 1)) (corner r (c + 1))) → (r' ≡ r) × (c' ≡ c + 1)
+over-right true r c r' c' p = (omega (arith, p), omega (arith, p))
+over-right false r c r' c' p = (omega (arith, p), omega (arith, p))
+
+over-bottom : (t : Bool) (r c r' c' : ℕ) → IsCentre Square (not t) r' c' (directed t (corner (r + 1) c) (corner (r + 1) (c + 1))) → (r' ≡ r + 1) × (c' ≡ c)
+over-bottom true r c r' c' p = (omega (arith, p), omega (arith, p))
+over-bottom false r c r' c' p = (omega (arith, p), omega (arith, p))
+
+over-left : (t : Bool) (r c r' c' : ℕ) → IsCentre Square (not t) r' c' (directed t (corner r c) (corner (r + 1) c)) → (r' ≡ r) × (c' + 1 ≡ c)
+over-left true r c r' c' p = (omega (arith, p), omega (arith, p))
+over-left false r c r' c' p = (omega (arith, p), omega (arith, p))
+
+over-top : (t : Bool) (r c r' c' : ℕ) → IsCentre Square (not t) r' c' (directed t (corner r (c + 1)) (corner r c)) → (r' + 1 ≡ r) × (c' ≡ c)
+over-top true r c r' c' p = (omega (arith, p), omega (arith, p))
+over-top false r c r' c' p = (omega (arith, p), omega (arith, p))
 
 -- ---- beyond the crossed step of a cell lies its partner
 
@@ -233,9 +251,9 @@ letter-partner R A numbers a tiling h e = go (across R A (tiling-parts R A tilin
         off : (u v : Corner) → In (side a u v) (sides R.kind a) → (x.step ≡ directed (is_dark a) u v → ⊥) → (falls_at R numbers u v ≡ false) × (falls_at R numbers v u ≡ false)
         off u v j differ =
             let p = told u v j in
-            let kept : is_crossed R A (directed (is_dark a) u v) ≡ false =
+            let is_grid : is_crossed R A (directed (is_dark a) u v) ≡ false =
             false_from_ne_true _ (λ c. differ (sym (x.crossing.only (directed (is_dark a) u v) (In-map step_along (side a u v) (sides R.kind a) j) c))) in
-            (p.0 ∙ kept, p.1 ∙ kept)
+            (p.0 ∙ is_grid, p.1 ∙ is_grid)
 
         -- the partner has the other colour
         colour : is_dark x.mate ≡ not (is_dark a)

@@ -1,4 +1,3 @@
-pub mod HeightPlaces
 pub mod PresentLemmas
 pub mod FallLemmas
 pub mod InnerSteps

@@ -5,10 +5,10 @@ use Rattle.tl_definitions.specs.declared.Kind.TheVariants.{Triangle}
 use Rattle.tl_definitions.specs.declared.Tile.{Tile}
 use Rattle.tl_definitions.specs.Lattice.{cell, corner}
 use Rattle.tl_definitions.specs.Region.{Region}
-use Rattle.tl_definitions.specs.RegionText.{region_of}
+use Rattle.tl_formats.specs.RegionText.{region_of}
 use Rattle.tl_definitions.specs.Accepted.{Accepted, IsCircuit}
 use Rattle.tl_definitions.specs.Heights.{AreHeights, AreLawful}
-use Rattle.tl_definitions.proofs.Cases.{drawn, walk_of}
+use Rattle.tl_formats.proofs.Cases.{drawn, walk_of}
 use Rattle.tl_definitions.proofs.Decide.{one_part}
 use Rattle.tl_closing.proofs.Heights.{heights-lawful}
 use Rattle.tl_height.proofs.HeightsBy.{heights-by}

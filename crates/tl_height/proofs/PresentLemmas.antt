@@ -5,7 +5,7 @@ use Rattle.std.specs.List.{list_all, cons_option}
 use Rattle.std.proofs.Math.Seq.{drop-cons}
 use Rattle.std.proofs.Math.Numerals.{add-one}
 use Rattle.std.proofs.lemmas.List.{drop_all}
-use Rattle.tl_definitions.specs.Region.{present}
+use Rattle.tl_lists.specs.Lists.{present}
 use Rattle.tl_lattice.specs.Places.{padded}
 
 module _ {A : Type 0} (t : A → Bool) (xs : List (Option A)) where

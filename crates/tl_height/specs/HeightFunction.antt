@@ -1,18 +1,18 @@
 -- Height functions as contracts see them.
-use Rattle.std.specs.Prelude.{ℕ, ◌+◌, Bool, nat_lt, List, ◌++◌, length, take, drop, ℤ, ◌-ℤ◌, unsigned_abs}
+use Rattle.std.specs.Prelude.{Bool, nat_lt, List, ℤ, ◌-ℤ◌, unsigned_abs}
 use Rattle.tl_definitions.specs.Region.{Region}
 use Rattle.tl_definitions.specs.Accepted.{Accepted}
 use Rattle.tl_definitions.specs.Heights.{AreLawful}
-use Rattle.tl_grid.specs.Grid.{IsKept}
+use Rattle.tl_grid.specs.Grid.{IsGrid}
 
 -- a region and the numbers of heights on its corners, as contracts see what holds both
 pub record HeightFunction : Type 0 where
   pub region : Region
   pub numbers : List ℤ
 
--- what holds of both in a Heights: the region is kept and accepted, and the heights are lawful
+-- what holds of both in a Heights: the region is one of a grid and accepted, and the heights are lawful
 pub record IsHeightFunction (R : Region) (numbers : List ℤ) : Type 0 where
-  pub kept : IsKept R
+  pub is_grid : IsGrid R
   pub accepted : Accepted R
   pub lawful : AreLawful R numbers
 
@@ -20,7 +20,3 @@ pub record IsHeightFunction (R : Region) (numbers : List ℤ) : Type 0 where
 -- fall by more.
 abbrev pub falls_between : ℤ → ℤ → Bool
 falls_between x y = nat_lt 1 (unsigned_abs (x -ℤ y))
-
--- the list with these numbers in the place of those from a place on
-abbrev pub put_at : ℕ → List ℤ → List ℤ → List ℤ
-put_at place numbers list = take place list ++ numbers ++ drop (place + length numbers) list

@@ -5,9 +5,10 @@ use Rattle.tl_definitions.specs.declared.Kind.TheVariants.{Square, Triangle}
 use Rattle.tl_definitions.specs.declared.Cell.{Cell}
 use Rattle.tl_definitions.specs.declared.Tile.{Tile}
 use Rattle.tl_definitions.specs.Lattice.{cell, corner, is_dark}
-use Rattle.tl_definitions.specs.Region.{Region, upto}
+use Rattle.tl_definitions.specs.Region.{Region}
+use Rattle.tl_lists.specs.Lists.{upto}
 use Rattle.tl_definitions.specs.Tiling.{is_tiling, partner}
-use Rattle.tl_definitions.specs.Drawing.{letter, drawing}
+use Rattle.tl_formats.specs.Drawing.{letter, drawing}
 use Rattle.tl_definitions.specs.Heights.{AreHeights}
 use Rattle.tl_height.specs.declared.sides.Ends.{Ends}
 

@@ -1,3 +1,4 @@
 pub mod HeightFunction
+pub mod OneProof
 pub mod Standing
 pub mod Letters

@@ -1,23 +1,22 @@
 //! The heights of a tiling, corner by corner in raster order.
 
 ghost use Rattle.std.specs.Prelude.{◌≡◌, ◌+◌, ◌-◌, ◌*◌, ◌<◌, ◌≤◌, List, ℤ, length, take, pos, negsuc, ◌+ℤ◌, ◌≤ℤ◌, IfOk, IsTrue};
-ghost use Rattle.tl_definitions.specs.Lattice.{corner as corner_of};
+ghost use Rattle.tl_definitions.specs.Lattice.{corner as corner_of, cell_width as width_of};
 ghost use Rattle.tl_definitions.specs.Region.{is_inner};
 ghost use Rattle.tl_definitions.specs.Accepted.{Accepted, IsCircuit};
-ghost use Rattle.tl_definitions.specs.Darts.{cell_width as width_of};
 ghost use Rattle.tl_definitions.specs.Heights.{height as height_of, AreHeights, AreLawful};
-ghost use Rattle.tl_grid.specs.Grid.{IsKept};
+ghost use Rattle.tl_grid.specs.Grid.{IsGrid};
 
 use crate::heights::Heights;
 use std::alloc::{AllocError, Global};
 use tl_boundary::Circuit;
-use tl_lattice::{Cell, Corner, Kind, rise};
+use tl_lattice::{Cell, Corner, Kind, cell_width, rise};
 use tl_region::Region;
 use tl_tiling::Tiling;
 
 /// The heights of the tiling: 0 at the first corner of the circuit, and along a directed step 1 more where no tile
 /// crosses the edge, and 3 less, or 2 less on the triangular lattice, where one does. The circuit and the tiling are of
-/// this region. Takes time linear in its rows times its columns.
+/// this region.
 ///
 /// Heights after W. P. Thurston, "Conway's Tiling Groups".
 ///
@@ -58,14 +57,15 @@ fn fill(alloc: Global, circuit: &Circuit, tiling: &Tiling) -> Result<Vec<i32>, A
 
 // The height of a corner place, from those of all places before it: 0 where the region has no corner there.
 fn height_at(circuit: &Circuit, tiling: &Tiling, corner: Corner, before: &[i32]) -> i32
-    requires kept { IsKept tiling.now.region }
+    requires is_grid { IsGrid tiling.now.region }
     requires accepted { Accepted tiling.now.region }
     requires circuit { IsCircuit tiling.now.region circuit.now }
     requires row { corner.r < tiling.now.region.rows + 1 }
     requires column { corner.x < tiling.now.region.columns + 2 }
     requires before { (numbers : List ℤ) → AreHeights tiling.now.region tiling.now.tiles numbers
         → before.now ≡ take (corner.r * (tiling.now.region.columns + 2) + corner.x) numbers }
-    ensures { (numbers : List ℤ) → AreHeights tiling.now.region tiling.now.tiles numbers → result ≡ height_of tiling.now.region numbers corner }
+    ensures { (numbers : List ℤ) → AreHeights tiling.now.region tiling.now.tiles numbers
+        → result ≡ height_of tiling.now.region numbers corner }
 {
     let region = tiling.region();
     if region.index_of(corner).is_some() {
@@ -79,23 +79,14 @@ fn height_at(circuit: &Circuit, tiling: &Tiling, corner: Corner, before: &[i32])
     }
 }
 
-// How many corner columns a cell spans, and so how far a corner is from its left neighbour.
-fn cell_width(kind: Kind) -> u32
-    ensures { result ≡ width_of kind }
-{
-    match kind {
-        Kind::Square => 1,
-        Kind::Triangle => 2,
-    }
-}
-
 // The height of an inner corner less that of its left neighbour. The cells above and below the edge between them are
 // in the region.
 fn rise_from_left(tiling: &Tiling, corner: Corner) -> i32
     requires { IsTrue (is_inner tiling.now.region corner) }
     ensures rise { (numbers : List ℤ) → AreHeights tiling.now.region tiling.now.tiles numbers
         → height_of tiling.now.region numbers corner
-        ≡ height_of tiling.now.region numbers (corner_of corner.r (corner.x - width_of tiling.now.region.kind)) +ℤ result }
+        ≡ height_of tiling.now.region numbers
+        (corner_of corner.r (corner.x - width_of tiling.now.region.kind)) +ℤ result }
     ensures low { negsuc 3 ≤ℤ result }
     ensures high { result ≤ℤ pos 3 }
 {

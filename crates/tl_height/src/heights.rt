@@ -1,24 +1,25 @@
 //! The type of height functions.
 
-ghost use Rattle.std.specs.Prelude.{◌≡◌, ◌+◌, ◌*◌, ◌<◌, ◌≤◌, List, ◌-◌, ◌^◌, ◌≤ℤ◌, pos, negsuc, length, slice_get, IfOk, IsTrue, Some};
+ghost use Rattle.std.specs.Prelude.{neg_ℤ, ◌≡◌, ◌+◌, ◌*◌, ◌<◌, ◌≤◌, List, ◌-◌, ◌^◌, ◌≤ℤ◌, pos, negsuc, length, slice_get, IfOk, IsTrue, Some};
 ghost use Rattle.std.specs.List.{list_all};
 ghost use Rattle.tl_definitions.specs.declared.Corner.{Corner};
 ghost use Rattle.tl_definitions.specs.declared.Tile.{Tile};
-ghost use Rattle.tl_definitions.specs.Lattice.{steps_out as steps_from};
-ghost use Rattle.tl_definitions.specs.Region.{is_corner_of, is_inner, inner_corners, present};
+ghost use Rattle.tl_definitions.specs.Lattice.{steps_out as steps_from, steps_in as steps_to};
+ghost use Rattle.tl_definitions.specs.Region.{is_corner_of, is_inner, inner_corners};
+ghost use Rattle.tl_lists.specs.Lists.{present, put_at};
 ghost use Rattle.tl_definitions.specs.Tiling.{is_tiling, partner};
-ghost use Rattle.tl_definitions.specs.Drawing.{letter};
+ghost use Rattle.tl_formats.specs.Drawing.{letter};
 ghost use Rattle.tl_definitions.specs.Heights.{height, AreHeights, AreLawful};
-ghost use Rattle.tl_closing.specs.Standing.{steps_in as steps_to};
-ghost use Rattle.tl_height.specs.HeightFunction.{falls_between, put_at};
+ghost use Rattle.tl_height.specs.HeightFunction.{falls_between};
 ghost use Rattle.tl_height.specs.Letters.{IsDrawnFrom, row_text};
 ghost use Rattle.tl_height.specs.Standing.{AreCornersOf, all_fall, standing};
+ghost use Rattle.tl_definitions.specs.Limits.{most_height};
 
 use crate::sides::side_ends;
-use crate::standing::{Standing, steps_in};
+use crate::standing::Standing;
 use std::alloc::{AllocError, Global};
 use std::marker::Model;
-use tl_lattice::{Cell, Corner, steps_out};
+use tl_lattice::{Cell, Corner, steps_in, steps_out};
 use tl_region::Region;
 
 /// Lawful heights on the corners of a region: those of exactly one tiling.
@@ -52,6 +53,14 @@ impl<'a> Heights<'a> {
         Heights { region, numbers }
     }
 
+    /// Gives the numbers away, without a copy. `of_numbers` takes them back.
+    pub fn into_numbers(self) -> Vec<i32>
+        ensures numbers { result.items ≡ self.entry.numbers }
+        ensures lawful { AreLawful self.entry.region result.items }
+    {
+        self.numbers
+    }
+
     /// The region.
     pub fn region(&self) -> &'a Region
         ensures region { result.now ≡ self.now.region }
@@ -73,8 +82,8 @@ impl<'a> Heights<'a> {
     pub fn at(&self, corner: Corner) -> i32
         requires { IsTrue (is_corner_of self.now.region corner) }
         ensures height { result ≡ height self.now.region self.now.numbers corner }
-        ensures low { negsuc (2 ^ 21 - 1) ≤ℤ result }
-        ensures high { result ≤ℤ pos (2 ^ 21) }
+        ensures low { neg_ℤ (pos most_height) ≤ℤ result }
+        ensures high { result ≤ℤ pos most_height }
     {
         let width = self.region.columns() as usize + 2;
         self.numbers[corner.r as usize * width + corner.x as usize]
@@ -115,7 +124,8 @@ impl<'a> Heights<'a> {
     /// How the tiling with these heights stands at the inner corner of this number, in raster order from 0.
     pub fn standing(&self, i: u32) -> Standing
         requires { i < length (inner_corners self.now.region) }
-        ensures { (A : List Tile) (v : Corner) → IsTrue (is_tiling self.now.region A) → AreHeights self.now.region A self.now.numbers
+        ensures { (A : List Tile) (v : Corner) → IsTrue (is_tiling self.now.region A)
+            → AreHeights self.now.region A self.now.numbers
             → slice_get (inner_corners self.now.region) i ≡ Some v → result ≡ standing self.now.region A v }
     {
         let corner = self.region.inner(i);
@@ -131,7 +141,8 @@ impl<'a> Heights<'a> {
     // Whether every step from an inner corner falls.
     fn falls_from(&self, corner: Corner) -> bool
         requires { IsTrue (is_inner self.now.region corner) }
-        ensures { result ≡ all_fall self.now.region self.now.numbers corner (present (steps_from self.now.region.kind corner)) }
+        ensures { result ≡ all_fall self.now.region self.now.numbers corner
+            (present (steps_from self.now.region.kind corner)) }
     {
         let steps = steps_out(self.region.kind(), corner);
         self.all_fall(self.at(corner), &steps.corners)
@@ -140,16 +151,18 @@ impl<'a> Heights<'a> {
     // Whether every step to an inner corner falls.
     fn falls_to(&self, corner: Corner) -> bool
         requires { IsTrue (is_inner self.now.region corner) }
-        ensures { result ≡ all_fall self.now.region self.now.numbers corner (steps_to self.now.region.kind corner) }
+        ensures { result ≡ all_fall self.now.region self.now.numbers corner
+            (present (steps_to self.now.region.kind corner)) }
     {
-        let corners = steps_in(self.region.kind(), corner);
-        self.all_fall(self.at(corner), &corners)
+        let steps = steps_in(self.region.kind(), corner);
+        self.all_fall(self.at(corner), &steps.corners)
     }
 
     // Whether every step between a corner of this height and one of these corners falls.
     fn all_fall(&self, here: i32, corners: &[Option<Corner>]) -> bool
         requires { AreCornersOf self.now.region corners.now }
-        ensures { result ≡ list_all (λ v. falls_between here (height self.now.region self.now.numbers v)) (present corners.now) }
+        ensures { result ≡ list_all (λ v. falls_between here (height self.now.region self.now.numbers v))
+            (present corners.now) }
     {
         for corner in corners {
             let Some(corner) = *corner else {
@@ -179,7 +192,8 @@ impl<'a> Heights<'a> {
     // Writes the letters of a row, and a line feed.
     fn write_row(&self, r: u32, line: &mut [u8])
         requires { length line.old ≡ self.now.region.columns + 1 }
-        ensures { (A : List Tile) → IsTrue (is_tiling self.now.region A) → AreHeights self.now.region A self.now.numbers
+        ensures { (A : List Tile) → IsTrue (is_tiling self.now.region A)
+            → AreHeights self.now.region A self.now.numbers
             → line.new ≡ row_text self.now.region A r }
     {
         let columns = self.region.columns();
@@ -191,7 +205,8 @@ impl<'a> Heights<'a> {
 
     // The letter at a place: for a cell, that of the side along which the heights fall.
     fn letter(&self, cell: Cell) -> u8
-        ensures { (A : List Tile) → IsTrue (is_tiling self.now.region A) → AreHeights self.now.region A self.now.numbers
+        ensures { (A : List Tile) → IsTrue (is_tiling self.now.region A)
+            → AreHeights self.now.region A self.now.numbers
             → result ≡ letter cell (partner A cell) }
     {
         if !self.region.has(cell) {

@@ -3,6 +3,7 @@
 ghost use Rattle.std.specs.Prelude.{◌≡◌, ◌≤◌, ◌^◌};
 ghost use Rattle.tl_height.specs.Letters.{ends_of};
 
+use tl_definitions::COORDINATE_LIMIT;
 use tl_lattice::{Cell, Corner, Kind, is_dark};
 
 /// The ends of the left and of the right side of a cell. A triangle has one of them twice: that above where it points
@@ -17,8 +18,8 @@ pub struct Ends {
 
 /// The ends of the sides of a cell.
 pub fn side_ends(kind: Kind, cell: Cell) -> Ends
-    requires row { cell.r ≤ 2 ^ 20 }
-    requires column { cell.c ≤ 2 ^ 20 }
+    requires row { cell.r ≤ COORDINATE_LIMIT }
+    requires column { cell.c ≤ COORDINATE_LIMIT }
     ensures { result ≡ ends_of kind cell }
 {
     let Cell { r, c } = cell;

@@ -1,19 +1,19 @@
 //! The two height functions of the square of four cells, by hand, and tilings drawn again from their heights.
 
-ghost use Rattle.std.specs.Prelude.{◌≤◌, ◌^◌, length};
+ghost use Rattle.std.specs.Prelude.{◌≡◌, ◌≤◌, ◌^◌, length};
 
-use crate::standing::steps_in;
 use crate::{Heights, Standing, of_tiling};
 use std::alloc::{AllocError, Global};
 use tl_boundary::circuit;
-use tl_lattice::{Corner, Kind};
+use tl_formats::INPUT_LIMIT;
+use tl_lattice::Corner;
 use tl_region::read_region;
 use tl_tiling::read_drawing;
 
 // The letters and the numbers of the heights of a drawn tiling.
 fn redrawn(alloc: Global, text: &[u8], drawing: &[u8]) -> Option<(Vec<u8>, Vec<i32>)>
-    requires text { length text.now ≤ 2 ^ 22 }
-    requires drawing { length drawing.now ≤ 2 ^ 22 }
+    requires text { length text.now ≤ INPUT_LIMIT }
+    requires drawing { length drawing.now ≤ INPUT_LIMIT }
 {
     let (region, _) = read_region(alloc, text).ok()?;
     let (tiling, _) = read_drawing(alloc, &region, drawing).ok()?;
@@ -22,13 +22,13 @@ fn redrawn(alloc: Global, text: &[u8], drawing: &[u8]) -> Option<(Vec<u8>, Vec<i
     let size = region.rows() as usize * (region.columns() as usize + 1);
     let mut letters = vec![in alloc; b'?'; size].ok()?;
     heights.to_letters(&mut letters);
-    let numbers = heights.numbers().to_vec(alloc).ok()?;
+    let numbers = heights.copy(alloc).ok()?.into_numbers();
     Some((letters, numbers))
 }
 
 fn is_redrawn(alloc: Global, text: &[u8], drawing: &[u8]) -> bool
-    requires text { length text.now ≤ 2 ^ 22 }
-    requires drawing { length drawing.now ≤ 2 ^ 22 }
+    requires text { length text.now ≤ INPUT_LIMIT }
+    requires drawing { length drawing.now ≤ INPUT_LIMIT }
 {
     match redrawn(alloc, text, drawing) {
         Some((letters, _)) => letters[..] == drawing[..],
@@ -38,8 +38,8 @@ fn is_redrawn(alloc: Global, text: &[u8], drawing: &[u8]) -> bool
 
 // Whether this drawing of the region has these heights.
 fn has_numbers(alloc: Global, text: &[u8], drawing: &[u8], wanted: &[i32]) -> bool
-    requires text { length text.now ≤ 2 ^ 22 }
-    requires drawing { length drawing.now ≤ 2 ^ 22 }
+    requires text { length text.now ≤ INPUT_LIMIT }
+    requires drawing { length drawing.now ≤ INPUT_LIMIT }
 {
     match redrawn(alloc, text, drawing) {
         Some((_, numbers)) => numbers[..] == wanted[..],
@@ -65,6 +65,24 @@ fn heights_draw_their_tiling_again(rt: HostRuntime) {
     for (text, drawing) in cases {
         assert!(rt; is_redrawn(rt.alloc(), text, drawing));
     }
+}
+
+#[test]
+fn a_square_of_512_rows_is_redrawn(rt: HostRuntime) -> Result<(), AllocError> {
+    let mut text = Vec::from_slice(rt.alloc(), b"square\n")?;
+    let mut drawing = Vec::new(rt.alloc());
+    for _ in 0..512 {
+        for _ in 0..256 {
+            text.extend_from_slice(b"##")?;
+            drawing.extend_from_slice(b"><")?;
+        }
+        text.push(b'\n')?;
+        drawing.push(b'\n')?;
+    }
+    assert!(rt; text.len() <= INPUT_LIMIT);
+    assert!(rt; drawing.len() <= INPUT_LIMIT);
+    assert!(rt; is_redrawn(rt.alloc(), text.as_slice(), drawing.as_slice()));
+    Ok(())
 }
 
 #[test]
@@ -109,17 +127,26 @@ fn a_square_has_two_height_functions(rt: HostRuntime) -> Result<(), AllocError> 
         heights.copy_from(&kept);
         assert_eq!(rt; heights.numbers(), kept.numbers());
         assert_eq!(rt; heights.region().cell_count(), 4);
+        assert_eq!(rt;
+            taken_back(heights).into_numbers().as_slice(),
+            kept.numbers()
+        );
     }
     Ok(())
 }
 
+// The same heights, after their numbers were given away and taken back.
+fn taken_back<'a>(heights: Heights<'a>) -> Heights<'a>
+    ensures { result ≡ heights.entry }
+{
+    let region = heights.region();
+    Heights::of_numbers(region, heights.into_numbers())
+}
+
+// Only a type whose values threads may share and pass on can be put here.
+fn may_go_to_threads<T: Send + Sync>() {}
+
 #[test]
-fn steps_lead_to_a_corner_from_the_table(rt: HostRuntime) {
-    let corner = |r: u32, x: u32| Some(Corner { r, x });
-    let even = steps_in(Kind::Square, Corner { r: 1, x: 1 });
-    assert_eq!(rt; even, [corner(1, 2), corner(1, 0), None]);
-    let odd = steps_in(Kind::Square, Corner { r: 2, x: 1 });
-    assert_eq!(rt; odd, [corner(1, 1), corner(3, 1), None]);
-    let three = steps_in(Kind::Triangle, Corner { r: 1, x: 2 });
-    assert_eq!(rt; three, [corner(0, 3), corner(2, 3), corner(1, 0)]);
+fn heights_may_go_to_threads() {
+    may_go_to_threads::<Heights>();
 }

@@ -1,4 +1,5 @@
 pub mod Counts
+pub mod States
 pub mod Reads
 pub mod Writes
 pub mod Memory

@@ -1,7 +1,8 @@
 //! Where bytes come from and where they go, with counted faults.
 //!
 //! A source and a sink are known by the bytes that they tell of and by their count of faults. A fault is
-//! answered only where the count rose in that call, so a program that answers one can show its cause.
+//! answered exactly where the count rose in that call: a program that answers one can show its cause, and one
+//! that answers none has hidden none.
 #![tactic(auto)]
 
 mod gate;

@@ -44,7 +44,8 @@ impl MemSink {
         fails: Vec<u64>,
     ) -> Result<MemSink, AllocError>
         requires { 1 ≤ piece }
-        ensures { IfOk result (λ sink. sink ≡ record { held = []; room = room; piece = piece; fails = fails.items; calls = 0; faults = 0 }) }
+        ensures { IfOk result (λ sink. sink
+            ≡ record { held = []; room = room; piece = piece; fails = fails.items; calls = 0; faults = 0 }) }
     {
         Ok(MemSink {
             held: Vec::with_capacity(alloc, room)?,
@@ -65,9 +66,7 @@ impl MemSink {
 }
 
 impl Sink for MemSink {
-    ghost held = { λ s. Some s.held };
-
-    ghost faults = { λ s. s.faults };
+    ghost state = { λ s. record { held = Some s.held; faults = s.faults } };
 
     /// Takes the least of `piece`, the number of bytes handed in and the room left.
     fn write(&mut self, bytes: &[u8]) -> Gave
@@ -75,7 +74,6 @@ impl Sink for MemSink {
         ensures count { IsTakenCount result bytes.now }
         ensures answer { result ≡ write_answer self.old (length bytes.now) }
         ensures after { self.new ≡ after_write self.old bytes.now }
-        ensures later { self.old.faults ≤ self.new.faults }
     {
         let call = self.calls;
         self.calls = call.saturating_add(1);

@@ -34,7 +34,8 @@ impl MemSource {
     /// counted from 0, stands in `fails`.
     pub fn new(bytes: Vec<u8>, piece: usize, fails: Vec<u64>) -> MemSource
         requires { 1 ≤ piece }
-        ensures { result ≡ record { left = bytes.items; piece = piece; fails = fails.items; calls = 0; faults = 0 } }
+        ensures { result
+            ≡ record { left = bytes.items; piece = piece; fails = fails.items; calls = 0; faults = 0 } }
     {
         MemSource {
             bytes,
@@ -48,9 +49,7 @@ impl MemSource {
 }
 
 impl Source for MemSource {
-    ghost left = { λ s. Some s.left };
-
-    ghost faults = { λ s. s.faults };
+    ghost state = { λ s. record { left = Some s.left; faults = s.faults } };
 
     /// Gives the least of `piece`, the buffer's length and the number of bytes left.
     fn read(&mut self, buf: &mut [u8]) -> Took
@@ -59,7 +58,6 @@ impl Source for MemSource {
         ensures answer { result ≡ read_answer self.old (length buf.new) }
         ensures given { take (read_count result) buf.new ≡ take (read_count result) self.old.left }
         ensures after { self.new ≡ after_read self.old (length buf.new) }
-        ensures later { self.old.faults ≤ self.new.faults }
     {
         let call = self.calls;
         self.calls = call.saturating_add(1);

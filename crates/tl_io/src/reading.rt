@@ -1,6 +1,6 @@
 //! Reading a source to its end.
 
-ghost use Rattle.std.specs.Prelude.{◌≡◌, ℕ, ◌≤◌, List, length, IfOk, OnOk, IfErr, Err};
+ghost use Rattle.std.specs.Prelude.{◌≡◌, ◌≢◌, ℕ, ◌≤◌, List, length, IfOk, OnOk, IfErr, Err};
 ghost use Rattle.std.specs.Io.KnownBytes.{prepend_known, IsAtEnd};
 ghost use Rattle.tl_io.specs.Counts.{Rose};
 ghost use Rattle.tl_io.specs.Reads.{IsStopAfter};
@@ -31,12 +31,15 @@ const PIECE: usize = 8192;
 /// the end; `OutOfMemory`. The bytes that came until then are gone from the source: at most one past the
 /// limit.
 pub fn read_all<S: Source>(alloc: Global, source: &mut S, limit: usize) -> Result<Vec<u8>, InFault>
-    ensures whole { IfOk result (λ v. S.left source.old ≡ prepend_known v.items (S.left source.new)) }
-    ensures end { OnOk result (IsAtEnd (S.left source.new)) }
+    ensures whole { IfOk result (λ v. (S.state source.old).left
+        ≡ prepend_known v.items (S.state source.new).left) }
+    ensures end { OnOk result (IsAtEnd (S.state source.new).left) }
     ensures within { IfOk result (λ v. length v.items ≤ limit) }
-    ensures stopped { IfErr result (λ fault. (bytes : List ℕ) × (S.left source.old ≡ prepend_known bytes (S.left source.new)) × IsStopAfter limit fault (length bytes)) }
-    ensures later { S.faults source.old ≤ S.faults source.new }
-    ensures failed { result ≡ Err ReadFault → Rose (S.faults source.old) (S.faults source.new) }
+    ensures stopped { IfErr result (λ fault. (bytes : List ℕ)
+        × ((S.state source.old).left ≡ prepend_known bytes (S.state source.new).left)
+        × IsStopAfter limit fault (length bytes)) }
+    ensures failed { result ≡ Err ReadFault → Rose (S.state source.old).faults (S.state source.new).faults }
+    ensures steady { result ≢ Err ReadFault → (S.state source.new).faults ≡ (S.state source.old).faults }
 {
     let mut bytes = Vec::new(alloc);
     let mut piece = [0u8; PIECE];

@@ -1,9 +1,10 @@
 //! Sources of bytes.
 
-ghost use Rattle.std.specs.Prelude.{◌≡◌, ℕ, ◌≤◌, ◌<◌, List, length, Option};
+ghost use Rattle.std.specs.Prelude.{◌≡◌, ◌≢◌, ◌<◌, length};
 ghost use Rattle.std.specs.Io.KnownBytes.{prepend_known, IsAtEnd};
 ghost use Rattle.tl_io.specs.Counts.{Rose};
 ghost use Rattle.tl_io.specs.Reads.{given_by, IsGivenCount};
+ghost use Rattle.tl_io.specs.States.{SourceState};
 ghost use Rattle.tl_io.specs.declared.source.Took.TheVariants.{End, Failed};
 
 /// What a read gave.
@@ -19,18 +20,16 @@ pub enum Took {
 
 /// A source of bytes.
 pub trait Source {
-    /// The bytes that are left, where the source tells them.
-    ghost left: { Self → Option (List ℕ) };
-
-    /// How many reads have failed. The count never falls, and stands still at the end of a `u64`.
-    ghost faults: { Self → ℕ };
+    /// The bytes that it has left, where it tells them, and how many of its reads have failed.
+    ghost state: { Self → SourceState };
 
     /// Takes some of the bytes that are left into the front of the buffer, which isn't empty.
     fn read(&mut self, buf: &mut [u8]) -> Took
         requires { 0 < length buf.old }
         ensures count { IsGivenCount result buf.new }
-        ensures bytes { left self.old ≡ prepend_known (given_by result buf.new) (left self.new) }
-        ensures end { result ≡ End → IsAtEnd (left self.new) }
-        ensures later { faults self.old ≤ faults self.new }
-        ensures failed { result ≡ Failed → Rose (faults self.old) (faults self.new) };
+        ensures bytes { (state self.old).left ≡ prepend_known (given_by result buf.new)
+            (state self.new).left }
+        ensures end { result ≡ End → IsAtEnd (state self.new).left }
+        ensures failed { result ≡ Failed → Rose (state self.old).faults (state self.new).faults }
+        ensures steady { result ≢ Failed → (state self.new).faults ≡ (state self.old).faults };
 }

@@ -1,13 +1,17 @@
 //! The standard streams as source and sink. They tell nothing of content.
 
-ghost use Rattle.std.specs.Prelude.{◌≡◌, None};
+ghost use Rattle.std.specs.Prelude.{◌≡◌, ◌≢◌, ◌<◌, None, length};
+ghost use Rattle.tl_io.specs.Counts.{Rose};
+ghost use Rattle.tl_io.specs.Reads.{IsGivenCount, IsReadOf};
+ghost use Rattle.tl_io.specs.declared.source.Took.TheVariants.{Failed};
 
 use crate::sink::{Gave, Sink};
 use crate::source::{Source, Took};
 use std::io::Read;
 use std::marker::Model;
 
-/// Standard input. It tells nothing of its content, and is seen as the number of its reads that failed.
+/// Standard input. It is seen as the bytes that the runtime's reader has left, where that tells them, and the
+/// number of reads that failed.
 #[derive(Drop)]
 pub struct StdSource<R: Input + Drop> {
     reader: R::Reader,
@@ -15,17 +19,17 @@ pub struct StdSource<R: Input + Drop> {
 }
 
 impl<R: Input + Drop> Model for StdSource<R> {
-    ghost use Rattle.std.specs.Prelude.{ℕ};
+    ghost use Rattle.tl_io.specs.States.{SourceState};
 
-    ghost Value = { ℕ };
+    ghost Value = { SourceState };
 
-    ghost view = { λ s. s.faults };
+    ghost view = { λ s. record { left = R.Reader.remaining s.reader; faults = s.faults } };
 }
 
 impl<R: Input + Drop> StdSource<R> {
     /// Standard input, of which nothing has failed.
     pub fn new(rt: R) -> StdSource<R>
-        ensures { result ≡ 0 }
+        ensures { result.faults ≡ 0 }
     {
         StdSource {
             reader: rt.reader(),
@@ -35,11 +39,16 @@ impl<R: Input + Drop> StdSource<R> {
 }
 
 impl<R: Input + Drop> Source for StdSource<R> {
-    ghost left = { λ _. None };
+    // A reader that told nothing may tell something later, and a source may not: so nothing is handed on.
+    ghost state = { λ s. record { left = None; faults = s.faults } };
 
-    ghost faults = { λ count. count };
-
-    fn read(&mut self, buf: &mut [u8]) -> Took {
+    fn read(&mut self, buf: &mut [u8]) -> Took
+        requires { 0 < length buf.old }
+        ensures count { IsGivenCount result buf.new }
+        ensures read { IsReadOf result self.old.left self.new.left buf.new }
+        ensures failed { result ≡ Failed → Rose self.old.faults self.new.faults }
+        ensures steady { result ≢ Failed → self.new.faults ≡ self.old.faults }
+    {
         match self.reader.read(buf) {
             Ok(0) => Took::End,
             Ok(count) => Took::Bytes(count),
@@ -76,9 +85,7 @@ impl<R: Print + Drop> StdSink<R> {
 }
 
 impl<R: Print + Drop> Sink for StdSink<R> {
-    ghost held = { λ _. None };
-
-    ghost faults = { λ count. count };
+    ghost state = { λ count. record { held = None; faults = count } };
 
     /// A write that takes nothing is an error.
     fn write(&mut self, bytes: &[u8]) -> Gave {

@@ -3,9 +3,13 @@
 ghost use Rattle.std.specs.Prelude.{◌≤◌};
 
 use crate::{
-    FreeGate, Gate, Gave, InFault, MemSink, MemSource, Sink, Source, Took, read_all, write_all,
+    FreeGate, Gate, Gave, InFault, MemSink, MemSource, Sink, Source, StdSink, StdSource, Took,
+    read_all, write_all,
 };
 use std::alloc::{AllocError, Global};
+use std::test::Fail;
+
+mod standard;
 
 fn source(alloc: Global, bytes: &[u8], piece: usize, fails: &[u64]) -> Result<MemSource, AllocError>
     requires { 1 ≤ piece }
@@ -61,18 +65,32 @@ fn all_bytes_are_read_up_to_the_limit(rt: HostRuntime) -> Result<(), AllocError>
     Ok(())
 }
 
+// The source fails once and then goes on, so that a read which is tried again shows.
 #[test]
-fn a_failed_read_stops_reading(rt: HostRuntime) -> Result<(), AllocError> {
-    let mut source = source(rt.alloc(), b"abcdef", 4, &[1])?;
-    assert!(rt;
-        matches!(
-            read_all(rt.alloc(), &mut source, 100),
-            Err(InFault::ReadFault)
-        )
-    );
+fn a_failed_read_stops_reading(rt: HostRuntime) -> Result<(), Fail> {
+    for (fails, left) in [(0, b"abcdef".as_slice()), (1, b"ef"), (2, b"")] {
+        let mut source = source(rt.alloc(), b"abcdef", 4, &[fails])?;
+        assert!(rt;
+            matches!(
+                read_all(rt.alloc(), &mut source, 100),
+                Err(InFault::ReadFault)
+            ),
+            "read {fails}"
+        );
+        let rest = read_all(rt.alloc(), &mut source, 100)?;
+        assert_eq!(rt; rest.as_slice(), left, "after read {fails}");
+    }
+    Ok(())
+}
+
+// The read after the one that tells the end fails, so that it shows.
+#[test]
+fn nothing_is_read_after_the_end(rt: HostRuntime) -> Result<(), Fail> {
+    let mut source = source(rt.alloc(), b"abcdef", 4, &[3])?;
+    let bytes = read_all(rt.alloc(), &mut source, 100)?;
+    assert_eq!(rt; bytes.as_slice(), b"abcdef".as_slice());
     let mut buf = [0u8; 8];
-    assert_eq!(rt; source.read(&mut buf), Took::Bytes(2));
-    assert_eq!(rt; &buf[..2], b"ef".as_slice());
+    assert_eq!(rt; source.read(&mut buf), Took::Failed);
     Ok(())
 }
 
@@ -85,11 +103,17 @@ fn all_bytes_are_written_in_pieces(rt: HostRuntime) -> Result<(), AllocError> {
     Ok(())
 }
 
+// The sink fails once and then goes on, so that a write which is tried again shows.
 #[test]
 fn a_failed_write_leaves_what_was_taken(rt: HostRuntime) -> Result<(), AllocError> {
-    let mut sink = MemSink::new(rt.alloc(), 64, 5, Vec::from_slice(rt.alloc(), &[1])?)?;
-    assert!(rt; write_all(&mut sink, b"drop no byte").is_err());
-    assert_eq!(rt; sink.held(), b"drop ".as_slice());
+    for (fails, held) in [(0, b"".as_slice()), (1, b"drop "), (2, b"drop no by")] {
+        let mut sink = MemSink::new(rt.alloc(), 64, 5, Vec::from_slice(rt.alloc(), &[fails])?)?;
+        assert!(rt;
+            write_all(&mut sink, b"drop no byte").is_err(),
+            "write {fails}"
+        );
+        assert_eq!(rt; sink.held(), held, "write {fails}");
+    }
     Ok(())
 }
 
@@ -100,4 +124,16 @@ fn the_free_gate_lets_pass(rt: HostRuntime) {
     gate.posted(0, 0);
     gate.hand(0, 1, 0);
     assert_eq!(rt; gate, FreeGate);
+}
+
+fn crosses_threads<T: Send + Sync + Drop>(_value: T) {}
+
+#[test]
+fn what_workers_hold_crosses_threads(rt: HostRuntime) -> Result<(), AllocError> {
+    crosses_threads(source(rt.alloc(), b"", 1, &[])?);
+    crosses_threads(MemSink::new(rt.alloc(), 0, 1, Vec::new(rt.alloc()))?);
+    crosses_threads(StdSource::new(rt));
+    crosses_threads(StdSink::new(rt));
+    crosses_threads(FreeGate);
+    Ok(())
 }

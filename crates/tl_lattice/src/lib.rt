@@ -6,10 +6,10 @@
 #![tactic(auto)]
 
 ghost use Rattle.std.specs.Prelude.{◌≡◌, ◌≤◌, ◌^◌, length, IsTrue, pos};
-ghost use Rattle.tl_definitions.specs.Lattice.{is_dark as is_dark_cell, neighbours as neighbours_of, ring as ring_of, is_corner, steps_out as steps_of, class_of as class_number, cell_back as cell_before, corner_at};
-ghost use Rattle.tl_definitions.specs.Heights.{rise as rise_of};
-ghost use Rattle.tl_lattice.specs.Places.{padded, moved};
+ghost use Rattle.tl_definitions.specs.Lattice.{is_dark as is_dark_cell, neighbours as neighbours_of, ring as ring_of, is_corner, steps_out as steps_from, steps_in as steps_to, class_of as class_number, cell_back as cell_before, corner_at, less, cell_width as width_of, rise as rise_of};
+ghost use Rattle.tl_lattice.specs.Places.{padded};
 
+use tl_definitions::COORDINATE_LIMIT;
 pub use tl_definitions::{Cell, Corner, Kind};
 
 mod tables;
@@ -18,8 +18,8 @@ pub use tables::{Near, Ring, Steps};
 
 /// Whether the cell is dark.
 pub fn is_dark(cell: Cell) -> bool
-    requires row { cell.r ≤ 2 ^ 20 }
-    requires column { cell.c ≤ 2 ^ 20 }
+    requires row { cell.r ≤ COORDINATE_LIMIT }
+    requires column { cell.c ≤ COORDINATE_LIMIT }
     ensures { result ≡ is_dark_cell cell }
 {
     (cell.r + cell.c) % 2 == 0
@@ -41,8 +41,8 @@ fn cell_back(corner: Corner, rows: u32, columns: u32) -> Option<Cell>
 /// The cells that share a side with the cell: to its left, to its right, and above and below; a triangle has
 /// one of the last two, below where it points up and above where it points down.
 pub fn neighbours(kind: Kind, cell: Cell) -> Near
-    requires row { cell.r ≤ 2 ^ 20 }
-    requires column { cell.c ≤ 2 ^ 20 }
+    requires row { cell.r ≤ COORDINATE_LIMIT }
+    requires column { cell.c ≤ COORDINATE_LIMIT }
     ensures cells { result.cells ≡ padded 4 (neighbours_of kind cell) }
     ensures len { result.len ≡ length (neighbours_of kind cell) }
 {
@@ -113,46 +113,35 @@ pub fn ring(kind: Kind, corner: Corner) -> Ring
     }
 }
 
-// The corner one row up or down, one place to the left.
-fn corner_left(corner: Corner, down: bool) -> Option<Corner>
-    requires { corner.r ≤ 2 ^ 20 }
-    ensures { result ≡ moved corner down }
+// The corner that lies so far above and to the left of a corner.
+fn corner_back(corner: Corner, up: u32, left: u32) -> Option<Corner>
+    ensures { result ≡ corner_at (less corner.r up) (less corner.x left) }
 {
-    if corner.x == 0 || (corner.r == 0 && !down) {
+    if corner.r < up || corner.x < left {
         return None;
     }
     Some(Corner {
-        r: if down { corner.r + 1 } else { corner.r - 1 },
-        x: corner.x - 1,
+        r: corner.r - up,
+        x: corner.x - left,
     })
 }
 
 /// The corners to which a directed step leads: along an edge, with the dark cell on the left. The pair has to
 /// be a corner of the lattice.
 pub fn steps_out(kind: Kind, corner: Corner) -> Steps
-    requires row { corner.r ≤ 2 ^ 20 }
-    requires column { corner.x ≤ 2 ^ 20 }
+    requires row { corner.r ≤ COORDINATE_LIMIT }
+    requires column { corner.x ≤ COORDINATE_LIMIT }
     requires is_corner { IsTrue (is_corner kind corner) }
-    ensures corners { result.corners ≡ padded 3 (steps_of kind corner) }
-    ensures len { result.len ≡ length (steps_of kind corner) }
+    ensures corners { result.corners ≡ padded 3 (steps_from kind corner) }
+    ensures len { result.len ≡ length (steps_from kind corner) }
 {
     let Corner { r, x } = corner;
     match kind {
         Kind::Square => {
             let (first, second) = if (r + x) % 2 == 0 {
-                let up = if r == 0 {
-                    None
-                } else {
-                    Some(Corner { r: r - 1, x })
-                };
-                (up, Corner { r: r + 1, x })
+                (corner_back(corner, 1, 0), Corner { r: r + 1, x })
             } else {
-                let left = if x == 0 {
-                    None
-                } else {
-                    Some(Corner { r, x: x - 1 })
-                };
-                (left, Corner { r, x: x + 1 })
+                (corner_back(corner, 0, 1), Corner { r, x: x + 1 })
             };
             Steps {
                 corners: [first, Some(second), None],
@@ -162,8 +151,41 @@ pub fn steps_out(kind: Kind, corner: Corner) -> Steps
         Kind::Triangle => Steps {
             corners: [
                 Some(Corner { r, x: x + 2 }),
-                corner_left(corner, false),
-                corner_left(corner, true),
+                corner_back(corner, 1, 1),
+                corner_back(Corner { r: r + 1, x }, 0, 1),
+            ],
+            len: 3,
+        },
+    }
+}
+
+/// The corners from which a directed step leads to the corner: along an edge, with the dark cell on the left. The
+/// pair has to be a corner of the lattice.
+pub fn steps_in(kind: Kind, corner: Corner) -> Steps
+    requires row { corner.r ≤ COORDINATE_LIMIT }
+    requires column { corner.x ≤ COORDINATE_LIMIT }
+    requires is_corner { IsTrue (is_corner kind corner) }
+    ensures corners { result.corners ≡ padded 3 (steps_to kind corner) }
+    ensures len { result.len ≡ length (steps_to kind corner) }
+{
+    let Corner { r, x } = corner;
+    match kind {
+        Kind::Square => {
+            let (first, second) = if (r + x) % 2 == 0 {
+                (Some(Corner { r, x: x + 1 }), corner_back(corner, 0, 1))
+            } else {
+                (corner_back(corner, 1, 0), Some(Corner { r: r + 1, x }))
+            };
+            Steps {
+                corners: [first, second, None],
+                len: 2,
+            }
+        }
+        Kind::Triangle => Steps {
+            corners: [
+                corner_back(Corner { r, x: x + 1 }, 1, 0),
+                Some(Corner { r: r + 1, x: x + 1 }),
+                corner_back(corner, 0, 2),
             ],
             len: 3,
         },
@@ -173,13 +195,23 @@ pub fn steps_out(kind: Kind, corner: Corner) -> Steps
 /// The class of the corner, from 0 on: no step joins two corners of one class. There are two on the square
 /// lattice and three on the triangular one.
 pub fn class_of(kind: Kind, corner: Corner) -> u8
-    requires row { corner.r ≤ 2 ^ 20 }
-    requires column { corner.x ≤ 2 ^ 20 }
+    requires row { corner.r ≤ COORDINATE_LIMIT }
+    requires column { corner.x ≤ COORDINATE_LIMIT }
     ensures { result ≡ class_number kind corner }
 {
     match kind {
         Kind::Square => ((corner.r + corner.x) % 2) as u8,
         Kind::Triangle => (corner.x % 3) as u8,
+    }
+}
+
+/// How many columns of corners a cell spans, and so how far a corner is from its neighbours in the row.
+pub fn cell_width(kind: Kind) -> u32
+    ensures { result ≡ width_of kind }
+{
+    match kind {
+        Kind::Square => 1,
+        Kind::Triangle => 2,
     }
 }
 

@@ -1,6 +1,8 @@
 //! The table of the two lattices, row by row.
 
-use crate::{Cell, Corner, Kind, class_of, is_dark, neighbours, ring, rise, steps_out};
+use crate::{
+    Cell, Corner, Kind, cell_width, class_of, is_dark, neighbours, ring, rise, steps_in, steps_out,
+};
 
 fn cell(r: u32, c: u32) -> Option<Cell> {
     Some(Cell { r, c })
@@ -64,9 +66,23 @@ fn a_step_has_the_dark_cell_on_its_left(rt: HostRuntime) {
 }
 
 #[test]
-fn classes_and_rises(rt: HostRuntime) {
+fn a_step_comes_from_the_corner_before(rt: HostRuntime) {
+    let even = steps_in(Kind::Square, Corner { r: 1, x: 1 });
+    assert!(rt; even.corners == [corner(1, 2), corner(1, 0), None] && even.len == 2);
+    let odd = steps_in(Kind::Square, Corner { r: 0, x: 1 });
+    assert!(rt; odd.corners == [None, corner(1, 1), None] && odd.len == 2);
+    let three = steps_in(Kind::Triangle, Corner { r: 1, x: 2 });
+    assert!(rt; three.corners == [corner(0, 3), corner(2, 3), corner(1, 0)] && three.len == 3);
+    let top = steps_in(Kind::Triangle, Corner { r: 0, x: 1 });
+    assert!(rt; top.corners == [None, corner(1, 2), None] && top.len == 3);
+}
+
+#[test]
+fn classes_widths_and_rises(rt: HostRuntime) {
     assert_eq!(rt; class_of(Kind::Square, Corner { r: 2, x: 3 }), 1);
     assert_eq!(rt; class_of(Kind::Triangle, Corner { r: 2, x: 5 }), 2);
+    assert_eq!(rt; cell_width(Kind::Square), 1);
+    assert_eq!(rt; cell_width(Kind::Triangle), 2);
     assert_eq!(rt; rise(Kind::Square), 4);
     assert_eq!(rt; rise(Kind::Triangle), 3);
 }

@@ -1,12 +1,22 @@
--- What cutting a line off an input gives.
-use Rattle.std.specs.Prelude.{◌≡◌, ℕ, List, [], ◌∷◌, Option, Some, None}
-use Rattle.tl_definitions.specs.Input.{pieces, line_of, Section, open_section}
+-- What cutting lines off an input gives.
+use Rattle.std.specs.Prelude.{◌≡◌, ℕ, List, [], ◌∷◌, drop, Option, Some, None}
+use Rattle.std.specs.List.{concat, prefix_len}
+use Rattle.tl_formats.specs.Input.{pieces, line_of, is_empty_line, Section, open_section}
 
 -- the line is the first one of the input, and the rest follows its end
 pub record IsFirstLine (input line rest : List ℕ) : Type 0 where
   pub piece : List ℕ
   pub first : pieces input ≡ piece ∷ pieces rest
   pub is_line : line ≡ line_of piece
+
+-- the input after its first line, with the end of that
+abbrev pub after_line : List ℕ → List ℕ
+after_line input = concat (drop 1 (pieces input))
+
+-- the input after the empty lines at its front
+abbrev pub after_empty_lines : List ℕ → List ℕ
+after_empty_lines input =
+    let ps = pieces input in concat (drop (prefix_len is_empty_line ps) ps)
 
 abbrev pub section_at : List ℕ → Section
 section_at input = open_section (pieces input)

@@ -2,9 +2,9 @@
 #![tactic(auto)]
 
 ghost use Rattle.std.specs.Prelude.{◌≡◌, ◌<◌, ◌≤◌, length, IfSome, OnSome};
-ghost use Rattle.tl_definitions.specs.Input.{without_end, further_section, rest_is_empty as only_line_ends};
+ghost use Rattle.tl_formats.specs.Input.{without_end, further_section, rest_is_empty as only_line_ends};
 ghost use Rattle.std.specs.Option.{option_copied};
-ghost use Rattle.tl_lines.specs.Lines.{IsFirstLine, IsNextLine, section_at};
+ghost use Rattle.tl_lines.specs.Lines.{IsFirstLine, IsNextLine, after_line, after_empty_lines, section_at};
 
 use memchr::memchr;
 
@@ -38,6 +38,7 @@ pub fn cut_line(bytes: &[u8]) -> (&[u8], &[u8])
 /// the section. An empty line ends the section, which takes it.
 pub fn next_line(bytes: &[u8]) -> (Option<&[u8]>, &[u8])
     ensures next { IsNextLine bytes.now (option_copied result.0) result.1.now }
+    ensures rest { result.1.now ≡ after_line bytes.now }
     ensures within { IfSome result.0 (λ line. length line.now ≤ length bytes.now) }
     ensures left { length result.1.now ≤ length bytes.now }
     ensures shorter { OnSome result.0 (length result.1.now < length bytes.now) }
@@ -57,17 +58,18 @@ pub fn next_line(bytes: &[u8]) -> (Option<&[u8]>, &[u8])
 /// gives from there on.
 pub fn skip_empty_lines(bytes: &[u8]) -> &[u8]
     ensures section { section_at result.now ≡ further_section bytes.now }
+    ensures rest { result.now ≡ after_empty_lines bytes.now }
     ensures left { length result.now ≤ length bytes.now }
 {
-    let mut rest = bytes;
-    while !rest.is_empty() {
-        let (line, after) = cut_line(rest);
+    let mut left = bytes;
+    'lines: while !left.is_empty() {
+        let (line, after) = cut_line(left);
         if !line.is_empty() {
             break;
         }
-        rest = after;
+        left = after;
     }
-    rest
+    left
 }
 
 /// Whether only line ends stand in the bytes, each with or without a carriage return before it.

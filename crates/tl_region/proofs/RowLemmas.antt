@@ -4,9 +4,9 @@ use Rattle.std.specs.Prelude.{if◌then◌else◌, slice_index, slice_get, fold,
 use Rattle.std.proofs.Math.Seq.{drop-cons}
 use Rattle.tl_definitions.specs.declared.Cell.{Cell}
 use Rattle.tl_definitions.specs.Lattice.{cell}
-use Rattle.tl_definitions.specs.Input.{Section}
-use Rattle.tl_definitions.specs.RegionText.{longest}
-use Rattle.tl_definitions.specs.Marks.{marks, text_marks, is_hash, is_bad}
+use Rattle.tl_formats.specs.Input.{Section}
+use Rattle.tl_formats.specs.RegionText.{longest}
+use Rattle.tl_formats.specs.Marks.{marks, text_marks, is_hash, is_bad}
 
 -- the marks from a column on are that column's, where its byte passes, and those after it
 pub marks-drop : (test : ℕ → Bool) (r i : ℕ) (bs : List ℕ) → i < length bs

@@ -4,11 +4,11 @@ use Rattle.std.specs.Prelude.{IfSome, slice_get, if◌then◌else◌}
 use Rattle.tl_definitions.specs.declared.Kind.{Kind}
 use Rattle.tl_definitions.specs.declared.Cell.{Cell}
 use Rattle.tl_definitions.specs.Region.{Region}
-use Rattle.tl_definitions.specs.Input.{Section, section_of, first_section}
+use Rattle.tl_formats.specs.Input.{Section, section_of, first_section}
 use Rattle.tl_definitions.specs.Accepted.{IsPlaced}
-use Rattle.tl_definitions.specs.RegionText.{RegionRefusal, bad_header, too_large, kind_of, first_bad_byte, region_of, is_too_large, region_of_rows, region_of_lines}
-use Rattle.tl_definitions.specs.Marks.{text_marks, is_bad}
-use Rattle.tl_definitions.proofs.RegionTexts.{region_of-cells, region_of-placed, first_bad_byte-marks}
+use Rattle.tl_formats.specs.RegionText.{RegionRefusal, bad_header, too_large, kind_of, first_bad_byte, region_of, is_too_large, region_of_rows, region_of_lines}
+use Rattle.tl_formats.specs.Marks.{text_marks, is_bad}
+use Rattle.tl_formats.proofs.RegionTexts.{region_of-cells, region_of-placed, first_bad_byte-marks}
 use Rattle.tl_lines.specs.Lines.{IsFirstLine, section_at}
 use Rattle.tl_region.specs.declared.rows.Rows.{Rows}
 use Rattle.tl_region.specs.Rows.{IsRowsOf, IsBadByteOf, region_by, HasAllowedSize, HasRefusedSize}

@@ -1,6 +1,6 @@
 -- The refusal that a fault tells; want of memory tells none.
 use Rattle.std.specs.Prelude.{Option, Some, None}
-use Rattle.tl_definitions.specs.RegionText.{RegionRefusal, bad_header, bad_byte, too_large, empty, parts, pinch, hole}
+use Rattle.tl_formats.specs.RegionText.{RegionRefusal, bad_header, bad_byte, too_large, empty, parts, pinch, hole}
 use Rattle.tl_region.specs.declared.fault.RegionFault.{RegionFault}
 use Rattle.tl_region.specs.declared.fault.RegionFault.TheVariants.{BadHeader, BadByte, TooLarge, Empty, Parts, Pinch, Hole, OutOfMemory}
 

@@ -3,8 +3,8 @@ use Rattle.std.specs.Prelude.{◌≡◌, ◌≢◌, ◌⊎◌, ℕ, true, false,
 use Rattle.tl_definitions.specs.declared.Cell.{Cell}
 use Rattle.tl_definitions.specs.declared.Kind.{Kind}
 use Rattle.tl_definitions.specs.Region.{Region}
-use Rattle.tl_definitions.specs.RegionText.{RegionRefusal, bad_byte, too_large, empty, longest, is_too_large}
-use Rattle.tl_definitions.specs.Marks.{text_marks, is_hash, is_bad}
+use Rattle.tl_formats.specs.RegionText.{RegionRefusal, bad_byte, too_large, empty, longest, is_too_large}
+use Rattle.tl_formats.specs.Marks.{text_marks, is_hash, is_bad}
 use Rattle.tl_region.specs.declared.rows.Rows.{Rows}
 
 -- these are the numbers of rows and columns and the cells of rows without a bad byte

@@ -1,7 +1,7 @@
 -- Which texts name cells, before it is asked whether they lie in one part, without pinch and without hole.
 use Rattle.std.specs.Prelude.{◌≡◌, ◌≢◌, ◌⊎◌, ℕ, List, [], Ok, Err}
 use Rattle.tl_definitions.specs.Region.{Region}
-use Rattle.tl_definitions.specs.RegionText.{RegionRefusal, region_of_lines, empty}
+use Rattle.tl_formats.specs.RegionText.{RegionRefusal, region_of_lines, empty}
 
 -- the lines are the text of this region, which has a cell
 abbrev pub IsReadableText : List (List ℕ) → Region → Type 0

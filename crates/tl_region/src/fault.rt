@@ -12,7 +12,7 @@ pub enum RegionFault {
     /// The first place in raster order with a byte other than `#`, `.` and a space.
     #[error("bad byte")]
     BadByte(Cell),
-    /// More than 512 rows, or more than 512 bytes in a row.
+    /// More than `SIDE_LIMIT` rows, or more bytes than that in a row.
     #[error("region too large")]
     TooLarge,
     /// No cell.

@@ -2,7 +2,7 @@
 
 ghost use Rattle.std.specs.Prelude.{◌≡◌, ◌==◌};
 ghost use Rattle.std.specs.List.{list_all};
-ghost use Rattle.tl_definitions.specs.RegionText.{is_header as is_header_of, kind_of as kind_named};
+ghost use Rattle.tl_formats.specs.RegionText.{is_header as is_header_of, kind_of as kind_named};
 
 use tl_lattice::Kind;
 

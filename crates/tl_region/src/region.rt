@@ -3,18 +3,18 @@
 ghost use Rattle.std.specs.Prelude.{◌≡◌, ◌+◌, ◌<◌, length, slice_get, find, position, option_map, Some, IsTrue};
 ghost use Rattle.tl_definitions.specs.Accepted.{Accepted};
 ghost use Rattle.tl_definitions.specs.Lattice.{corner_eq, is_corner};
-ghost use Rattle.tl_definitions.specs.Region.{has, inner_corners, corner_places};
+ghost use Rattle.tl_definitions.specs.Region.{has, is_step as is_step_of, inner_corners, corner_places};
 ghost use Rattle.tl_definitions.specs.Boundary.{is_boundary_corner, side_from};
-ghost use Rattle.tl_grid.specs.Grid.{IsKept};
+ghost use Rattle.tl_grid.specs.Grid.{IsGrid};
 ghost use Rattle.tl_grid.specs.Inner.{IsInnerOf};
 ghost use Rattle.tl_grid.specs.Sides.{side_of};
 
 use std::marker::Model;
-use tl_grid::{BoundarySide, Grid, Inner, first_boundary_corner, side_out};
+use tl_grid::{BoundarySide, Grid, Inner, first_boundary_corner, is_step, side_out};
 use tl_lattice::{Cell, Corner, Kind};
 
 /// An accepted region: finitely many cells of one lattice, at least one, in one piece without pinch and without
-/// hole, in at most 512 rows and 512 columns.
+/// hole, in at most `SIDE_LIMIT` rows and columns.
 #[derive(Drop)]
 pub struct Region {
     grid: Grid,
@@ -23,7 +23,7 @@ pub struct Region {
 
 impl Model for Region {
     ghost use Rattle.tl_definitions.specs.Region as shape;
-    ghost use Rattle.tl_grid.specs.Grid.{IsKept};
+    ghost use Rattle.tl_grid.specs.Grid.{IsGrid};
     ghost use Rattle.tl_grid.specs.Inner.{IsInnerOf};
     ghost use Rattle.tl_definitions.specs.Accepted.{Accepted};
 
@@ -31,13 +31,13 @@ impl Model for Region {
 
     ghost view = { λ s. s.grid };
 
-    ghost invariant = { λ s. IsKept s.grid × IsInnerOf s.grid s.inner × Accepted s.grid };
+    ghost invariant = { λ s. IsGrid s.grid × IsInnerOf s.grid s.inner × Accepted s.grid };
 }
 
 impl Region {
     /// The region of these cells, with its inner corners.
     pub(crate) fn of(grid: Grid, inner: Inner) -> Region
-        requires kept { IsKept grid }
+        requires is_grid { IsGrid grid }
         requires inner { IsInnerOf grid inner }
         requires accepted { Accepted grid }
         ensures { result ≡ grid }
@@ -55,7 +55,7 @@ impl Region {
     /// The number of rows of the region's text.
     pub fn rows(&self) -> u32
         ensures rows { result ≡ self.now.rows }
-        ensures kept { IsKept self.now }
+        ensures is_grid { IsGrid self.now }
         ensures accepted { Accepted self.now }
     {
         self.grid.rows()
@@ -64,7 +64,7 @@ impl Region {
     /// The number of columns of the region's text: the greatest number of bytes in one of its rows.
     pub fn columns(&self) -> u32
         ensures columns { result ≡ self.now.columns }
-        ensures kept { IsKept self.now }
+        ensures is_grid { IsGrid self.now }
     {
         self.grid.columns()
     }
@@ -72,7 +72,7 @@ impl Region {
     /// The number of cells.
     pub fn cell_count(&self) -> u32
         ensures count { result ≡ length self.now.cells }
-        ensures kept { IsKept self.now }
+        ensures is_grid { IsGrid self.now }
     {
         self.grid.cell_count()
     }
@@ -95,7 +95,7 @@ impl Region {
     /// The number of inner corners: those whose whole ring is in the region.
     pub fn inner_count(&self) -> u32
         ensures count { result ≡ length (inner_corners self.now) }
-        ensures kept { IsKept self.now }
+        ensures is_grid { IsGrid self.now }
     {
         self.inner.corners.len() as u32
     }
@@ -126,7 +126,15 @@ impl Region {
         side_out(&self.grid, corner)
     }
 
-    /// The number of the corner, in constant time; None where the pair is no inner corner. Any pair may be
+    /// Whether a directed step leads from the one corner to the other, along an edge of a cell of the region and with
+    /// the dark cell on its left. Any two pairs may be asked for.
+    pub fn is_step(&self, from: Corner, to: Corner) -> bool
+        ensures { result ≡ is_step_of self.now from to }
+    {
+        is_step(&self.grid, from, to)
+    }
+
+    /// The number of the corner; None where the pair is no inner corner. Any pair may be
     /// asked for.
     pub fn index_of(&self, corner: Corner) -> Option<u32>
         ensures { result ≡ position (corner_eq corner) (inner_corners self.now) }

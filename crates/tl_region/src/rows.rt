@@ -1,13 +1,14 @@
 //! The rows of a region's text.
 
 ghost use Rattle.std.specs.Prelude.{◌≡◌, ◌+◌, ◌<◌, ◌≤◌, ◌^◌, ◌++◌, length, slice_get, IfOk, IfErr, IfSome, None};
-ghost use Rattle.tl_definitions.specs.Marks.{marks, is_hash, is_bad};
+ghost use Rattle.tl_formats.specs.Marks.{marks, is_hash, is_bad};
 ghost use Rattle.tl_lines.specs.Lines.{section_at};
 ghost use Rattle.tl_region.specs.Rows.{IsRowsOf, IsBadByteOf};
 ghost use Rattle.tl_region.specs.Refusals.{refusal_by};
 
 use crate::fault::RegionFault;
 use std::alloc::{AllocError, Global};
+use tl_formats::INPUT_LIMIT;
 use tl_lattice::Cell;
 use tl_lines::next_line;
 
@@ -24,7 +25,8 @@ pub struct Rows {
 fn read_row(line: &[u8], r: u32, cells: &mut Vec<Cell>) -> Result<Option<Cell>, AllocError>
     requires { length line.now < 2 ^ 32 }
     ensures bad { IfOk result (λ bad. bad ≡ slice_get (marks is_bad r 0 line.now) 0) }
-    ensures cells { IfOk result (λ bad. bad ≡ None → cells.new.items ≡ cells.old.items ++ marks is_hash r 0 line.now) }
+    ensures cells { IfOk result (λ bad. bad ≡ None → cells.new.items
+        ≡ cells.old.items ++ marks is_hash r 0 line.now) }
 {
     for (c, byte) in line.iter().enumerate() {
         let cell = Cell { r, c: c as u32 };
@@ -39,11 +41,12 @@ fn read_row(line: &[u8], r: u32, cells: &mut Vec<Cell>) -> Result<Option<Cell>, 
 
 /// Reads the rows of a section whose header was read, and gives what follows the section.
 pub fn read_rows(alloc: Global, text: &[u8]) -> Result<(Rows, &[u8]), RegionFault>
-    requires { length text.now ≤ 2 ^ 22 }
+    requires { length text.now ≤ INPUT_LIMIT }
     ensures rows { IfOk result (λ p. IsRowsOf (section_at text.now).lines p.0) }
     ensures rest { IfOk result (λ p. p.1.now ≡ (section_at text.now).rest) }
     ensures within { IfOk result (λ p. length p.1.now ≤ length text.now) }
-    ensures refused { IfErr result (λ fault. IfSome (refusal_by fault) (IsBadByteOf (section_at text.now).lines)) }
+    ensures refused { IfErr result (λ fault. IfSome (refusal_by fault)
+        (IsBadByteOf (section_at text.now).lines)) }
 {
     let mut rows = Rows {
         count: 0,

@@ -2,8 +2,8 @@
 
 ghost use Rattle.std.specs.Prelude.{◌≡◌, IfErr, IfSome, OnOk};
 ghost use Rattle.tl_definitions.specs.Accepted.{Accepted};
-ghost use Rattle.tl_definitions.specs.RegionText.{BreaksRule};
-ghost use Rattle.tl_grid.specs.Grid.{IsKept};
+ghost use Rattle.tl_formats.specs.RegionText.{BreaksRule};
+ghost use Rattle.tl_grid.specs.Grid.{IsGrid};
 ghost use Rattle.tl_region.specs.Refusals.{refusal_by};
 
 use crate::fault::RegionFault;
@@ -15,7 +15,7 @@ use tl_grid::{Grid, first_parted, first_pinch, has_euler_one, has_one_circuit};
 /// # Errors
 /// `Parts`, `Pinch` or `Hole` for the first rule that is broken, or want of memory.
 pub fn check_rules(alloc: Global, grid: &Grid) -> Result<(), RegionFault>
-    requires { IsKept grid.now }
+    requires { IsGrid grid.now }
     ensures accepted { OnOk result (Accepted grid.now) }
     ensures refused { IfErr result (λ fault. IfSome (refusal_by fault) (BreaksRule grid.now)) }
 {

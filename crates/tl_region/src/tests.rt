@@ -1,14 +1,15 @@
 //! Region texts, and each way of being refused.
 
-ghost use Rattle.std.specs.Prelude.{◌≤◌, ◌^◌, length};
+ghost use Rattle.std.specs.Prelude.{◌≤◌, length};
 
 use crate::{Region, RegionFault, read_region, rest_is_empty};
 use std::alloc::{AllocError, Global};
 use std::test::Fail;
+use tl_formats::INPUT_LIMIT;
 use tl_lattice::{Cell, Corner, Kind};
 
 fn fault_of(alloc: Global, text: &[u8]) -> Option<RegionFault>
-    requires { length text.now ≤ 2 ^ 22 }
+    requires { length text.now ≤ INPUT_LIMIT }
 {
     read_region(alloc, text).err()
 }
@@ -196,6 +197,73 @@ fn inner_corners_are_numbered_in_raster_order(rt: HostRuntime) -> Result<(), Fai
                 assert_eq!(rt; region.index_of(Corner { r: far, x: 1 }), None);
                 assert_eq!(rt; region.index_of(Corner { r: 1, x: far }), None);
                 assert_eq!(rt; region.index_of(Corner { r: far, x: far }), None);
+            }
+        }
+    }
+    Ok(())
+}
+
+// Only a type whose values threads may share and pass on can be put here.
+fn may_go_to_threads<T: Send + Sync>() {}
+
+#[test]
+fn regions_may_go_to_threads() {
+    may_go_to_threads::<Region>();
+}
+
+// The ends of a step, each as a row and a column.
+type Ends = ((u32, u32), (u32, u32));
+
+// The corner of this place among four rows of six.
+fn corner_at(place: u32) -> Corner {
+    Corner {
+        r: place / 6,
+        x: place % 6,
+    }
+}
+
+#[test]
+fn steps_go_along_edges_of_cells_in_one_direction(rt: HostRuntime) -> Result<(), Fail> {
+    let square: [Ends; 10] = [
+        ((0, 0), (1, 0)),
+        ((0, 1), (0, 0)),
+        ((0, 1), (0, 2)),
+        ((0, 2), (1, 2)),
+        ((1, 0), (1, 1)),
+        ((1, 1), (0, 1)),
+        ((1, 1), (2, 1)),
+        ((1, 2), (1, 1)),
+        ((2, 0), (1, 0)),
+        ((2, 1), (2, 0)),
+    ];
+    let triangle: [Ends; 7] = [
+        ((0, 1), (0, 3)),
+        ((0, 1), (1, 0)),
+        ((0, 3), (1, 2)),
+        ((1, 0), (1, 2)),
+        ((1, 2), (0, 1)),
+        ((1, 2), (1, 4)),
+        ((1, 4), (0, 3)),
+    ];
+    let cases: [(&[u8], &[Ends]); 2] = [
+        (b"square\n##\n#.\n", &square),
+        (b"triangle\n###\n", &triangle),
+    ];
+    for (text, steps) in cases {
+        if text.len() < 100 {
+            let (region, _) = read_region(rt.alloc(), text)?;
+            for place in 0..24u32 {
+                let from = corner_at(place);
+                for other in 0..24u32 {
+                    let to = corner_at(other);
+                    let wanted = steps.contains(&((from.r, from.x), (to.r, to.x)));
+                    assert_eq!(rt; region.is_step(from, to), wanted, "{place} {other}");
+                }
+                let far = Corner {
+                    r: u32::MAX,
+                    x: u32::MAX - place,
+                };
+                assert!(rt; !region.is_step(from, far) && !region.is_step(far, from));
             }
         }
     }

@@ -6,14 +6,15 @@ use Rattle.tl_definitions.specs.declared.Cell.{Cell}
 use Rattle.tl_definitions.specs.declared.Tile.{Tile}
 use Rattle.std.proofs.lemmas.Bool.{and_parts, or_cases}
 use Rattle.tl_definitions.specs.Lattice.{cell_eq, cell_lt, are_neighbours}
-use Rattle.tl_definitions.proofs.Regions.{same_test, cell_eq-same}
+use Rattle.tl_definitions.proofs.Cells.{cell_eq-same}
+use Rattle.tl_lists.proofs.Tests.{same_test}
 use Rattle.tl_definitions.specs.Region.{Region, has}
-use Rattle.tl_definitions.specs.Input.{Section}
+use Rattle.tl_formats.specs.Input.{Section}
 use Rattle.tl_definitions.specs.Tiling.{partner, is_tile, is_tiling, covers, other_cell}
-use Rattle.tl_definitions.specs.Drawing.{named, named_at, Draws, is_matched, first_unmatched, drawing_refusal, DrawingRefusal, unmatched, letter}
+use Rattle.tl_formats.specs.Drawing.{named, named_at, Draws, is_matched, first_unmatched, drawing_refusal, DrawingRefusal, unmatched, letter}
 use Rattle.tl_definitions.proofs.Partners.{IsMatched, tiles_by-tiling, partner-tiles_by}
-use Rattle.tl_definitions.proofs.Drawings.{AgreeOn, all-matched, find-none, drawn, refused-bad_letter, refused-unmatched, refused-none, first_unmatched-same, tiles_by-same, letter-named}
-use Rattle.tl_grid.specs.Grid.{IsKept}
+use Rattle.tl_formats.proofs.Drawings.{AgreeOn, all-matched, find-none, drawn, refused-bad_letter, refused-unmatched, refused-none, first_unmatched-same, tiles_by-same, letter-named}
+use Rattle.tl_grid.specs.Grid.{IsGrid}
 use Rattle.tl_tiling.specs.Letters.{letter_at, partner_in, AreLetters, tiles_in, AreReadLetters, IsFirstBadLetter}
 
 -- the letters name the partners that the lines name
@@ -39,7 +40,7 @@ pub are_letters : (R : Region) (lines : List (List ℕ)) (letters : List ℕ) �
     → None ≡ find (λ a. not (is_matched R (partner_in R letters) a)) R.cells → AreLetters R letters
 are_letters R lines letters s e = record { size = s.size; matched = find-none (is_matched R (partner_in R letters)) R.cells (sym e); dotted = s.dotted }
 
-pub drawn_by : (R : Region) (lines : List (List ℕ)) (letters : List ℕ) → IsKept R → AreReadLetters R lines letters
+pub drawn_by : (R : Region) (lines : List (List ℕ)) (letters : List ℕ) → IsGrid R → AreReadLetters R lines letters
     → None ≡ find (λ a. not (is_matched R (partner_in R letters) a)) R.cells → Draws R lines (tiles_in R letters)
 drawn_by R lines letters k s e =
     subst (Draws R lines) (tiles_by-same R (named_at lines) (partner_in R letters) (agree R lines letters s))
@@ -47,10 +48,10 @@ drawn_by R lines letters k s e =
 
 -- ---- a tiling that is kept as letters
 
-pub letters-tiling : (R : Region) (letters : List ℕ) → IsKept R → AreLetters R letters → is_tiling R (tiles_in R letters) ≡ true
+pub letters-tiling : (R : Region) (letters : List ℕ) → IsGrid R → AreLetters R letters → is_tiling R (tiles_in R letters) ≡ true
 letters-tiling R letters k s = tiles_by-tiling R (partner_in R letters) k.placed (all-matched R (partner_in R letters) s.matched)
 
-pub letters-partner : (R : Region) (letters : List ℕ) (a : Cell) → IsKept R → AreLetters R letters → has R a ≡ true → partner (tiles_in R letters) a ≡ partner_in R letters a
+pub letters-partner : (R : Region) (letters : List ℕ) (a : Cell) → IsGrid R → AreLetters R letters → has R a ≡ true → partner (tiles_in R letters) a ≡ partner_in R letters a
 letters-partner R letters a k s h = partner-tiles_by R (partner_in R letters) k.placed (all-matched R (partner_in R letters) s.matched) a h
 
 pub some-partner : (R : Region) (letters : List ℕ) (a : Cell) → AreLetters R letters → has R a ≡ true → None ≡ partner_in R letters a → ⊥
@@ -84,7 +85,7 @@ no_partner R A a t h = ap (option_map (λ t. other_cell t a)) (none A (and_parts
     none (t ∷ A) i = rw (not_covered t (and_parts _ _ i).0) (none A (and_parts _ _ i).1)
 
 -- the letter that is printed at a place
-pub letter-is : (R : Region) (letters : List ℕ) (a : Cell) → IsKept R → AreLetters R letters → a.r < R.rows → a.c < R.columns
+pub letter-is : (R : Region) (letters : List ℕ) (a : Cell) → IsGrid R → AreLetters R letters → a.r < R.rows → a.c < R.columns
     → letter a (partner (tiles_in R letters) a) ≡ letter_at R letters a
 letter-is R letters a k s h l = go (has R a) refl
   where

@@ -6,12 +6,12 @@ use Rattle.std.proofs.lemmas.Nat.{mul-add-lt}
 use Rattle.std.proofs.Math.Nat.{mul_comm}
 use Rattle.tl_definitions.specs.declared.Cell.{Cell}
 use Rattle.tl_definitions.specs.Lattice.{cell}
-use Rattle.tl_definitions.specs.Region.{Region, has}
+use Rattle.tl_definitions.specs.Region.{Region, has, row_part}
 use Rattle.tl_definitions.specs.Accepted.{IsPlaced}
-use Rattle.tl_definitions.specs.RegionText.{is_blank}
-use Rattle.tl_definitions.specs.Drawing.{is_letter}
-use Rattle.tl_definitions.specs.Marks.{row_part}
-use Rattle.tl_definitions.proofs.Regions.{nat_cases, has-within, same_place}
+use Rattle.tl_formats.specs.RegionText.{is_blank}
+use Rattle.tl_formats.specs.Drawing.{is_letter}
+use Rattle.tl_definitions.proofs.Regions.{has-within, same_place}
+use Rattle.tl_lists.proofs.Tests.{nat_cases}
 use Rattle.tl_tiling.specs.Letters.{letter_at, is_allowed_in, ReadsLine}
 
 abbrev is_bad : Region → List ℕ → Cell → Bool
@@ -22,14 +22,14 @@ pub record IsReadTo (R : Region) (r : ℕ) (line old new : List ℕ) (c width : 
   pub size : length new ≡ length old
   pub bad : find (λ a. not (is_allowed_in R line a)) (row_part r c (width - c)) ≡ find (λ a. not (is_allowed_in R line a)) (row_part r 0 width)
   pub read : (a : Cell) → a.r ≡ r → a.c < c → has R a ≡ true → slice_get line a.c ≡ Some (letter_at R new a)
-  pub kept : (a : Cell) → a.r < R.rows → a.c < R.columns → ((a.r ≡ r → ⊥) ⊎ (has R a ≡ false)) → letter_at R new a ≡ letter_at R old a
+  pub is_grid : (a : Cell) → a.r < R.rows → a.c < R.columns → ((a.r ≡ r → ⊥) ⊎ (has R a ≡ false)) → letter_at R new a ≡ letter_at R old a
 
 pub read-start : (R : Region) (r : ℕ) (line letters : List ℕ) (width : ℕ) → IsReadTo R r line letters letters 0 width
 read-start R r line letters width = record {
   size = refl;
   bad = ap (λ (n : ℕ). find (λ a. not (is_allowed_in R line a)) (row_part r 0 n)) (omega arith);
   read = λ a e h. absurd (omega (arith, h));
-  kept = λ a h k o. refl;
+  is_grid = λ a h k o. refl;
 }
 
 -- a place that is allowed is passed over
@@ -72,7 +72,7 @@ read-blank R r line old new c width s h out blank = record {
   size = s.size;
   bad = passed R r line c width h (allowed-outside R line (cell r c) out blank) ∙ s.bad;
   read = λ a e k i. go a e k i (nat_cases a.c c);
-  kept = s.kept;
+  is_grid = s.is_grid;
 }
   where
     go : (a : Cell) → a.r ≡ r → a.c < c + 1 → has R a ≡ true → (a.c ≡ c) ⊎ (¬ (a.c ≡ c)) → slice_get line a.c ≡ Some (letter_at R new a)
@@ -90,7 +90,7 @@ read-letter R r line old new c width letter placed size s h inside at is = recor
   size = length-set new place letter ∙ s.size;
   bad = passed R r line c width h (allowed-inside R line (cell r c) inside (ap is_letter at ∙ is)) ∙ s.bad;
   read = λ a e k i. read a e k i (nat_cases a.c c);
-  kept = λ a i j o. get_or-set_other new place (a.r * R.columns + a.c) letter 0 (elsewhere a j o) ∙ s.kept a i j o;
+  is_grid = λ a i j o. get_or-set_other new place (a.r * R.columns + a.c) letter 0 (elsewhere a j o) ∙ s.is_grid a i j o;
 }
   where
     within : (r < R.rows) × (c < R.columns)
@@ -128,5 +128,5 @@ read-letter R r line old new c width letter placed size s h inside at is = recor
 pub read-whole : (R : Region) (r : ℕ) (line old new : List ℕ) (width : ℕ) → IsPlaced R → R.columns ≤ width → IsReadTo R r line old new width width → ReadsLine R r line old new
 read-whole R r line old new width placed h s = record {
   read = λ a e i. s.read a e (omega (arith, h, (has-within R a placed i).1)) i;
-  kept = s.kept;
+  is_grid = s.is_grid;
 }

@@ -11,10 +11,10 @@ use Rattle.std.proofs.Math.Seq.{drop-cons}
 use Rattle.tl_definitions.specs.declared.Cell.{Cell}
 use Rattle.tl_definitions.specs.Lattice.{cell_eq}
 use Rattle.tl_definitions.specs.Region.{Region, has}
-use Rattle.tl_definitions.proofs.Sublists.{cell_eq-refl}
+use Rattle.tl_definitions.proofs.Cells.{cell_eq-refl}
 use Rattle.tl_definitions.proofs.Regions.{has-within}
 use Rattle.tl_lattice.specs.Places.{padded}
-use Rattle.tl_grid.specs.Grid.{IsKept}
+use Rattle.tl_grid.specs.Grid.{IsGrid}
 use Rattle.tl_grid.proofs.GridLemmas.{or_false}
 
 -- the places past the end of a table pass no test that fails where there is none
@@ -27,7 +27,7 @@ any-padded {A} p n xs none =
     nones (suc m) = rw none (nones m)
 
 -- the place of a cell of the region
-pub place-within : (R : Region) (letters : List ℕ) (a : Cell) → IsKept R → length letters ≡ R.rows * R.columns → has R a ≡ true
+pub place-within : (R : Region) (letters : List ℕ) (a : Cell) → IsGrid R → length letters ≡ R.rows * R.columns → has R a ≡ true
     → (a.r * R.columns + a.c < length letters) × (a.r ≤ 2 * 524288) × (a.c ≤ 2 * 524288)
 place-within R letters a k size h =
     let w : (a.r < R.rows) × (a.c < R.columns) = has-within R a k.placed h in

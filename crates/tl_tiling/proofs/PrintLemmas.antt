@@ -9,10 +9,11 @@ use Rattle.std.proofs.Math.Nat.{mul_comm, mul-le-mul_right}
 use Rattle.std.proofs.Math.Seq.{drop-cons}
 use borrow.Rule.Slice.PartMut.{put_mid}
 use Rattle.tl_definitions.specs.Lattice.{cell}
-use Rattle.tl_definitions.specs.Region.{Region, upto}
+use Rattle.tl_definitions.specs.Region.{Region}
+use Rattle.tl_lists.specs.Lists.{upto}
 use Rattle.tl_definitions.specs.Tiling.{partner}
-use Rattle.tl_definitions.specs.Drawing.{letter, drawing}
-use Rattle.tl_grid.specs.Grid.{IsKept}
+use Rattle.tl_formats.specs.Drawing.{letter, drawing}
+use Rattle.tl_grid.specs.Grid.{IsGrid}
 use Rattle.tl_tiling.specs.Letters.{AreLetters, tiles_in}
 use Rattle.tl_tiling.proofs.DrawLemmas.{letter-is}
 
@@ -62,7 +63,7 @@ line_more columns r rows out letters line h size full before is =
     zero_add r = omega arith
 
 -- the letters of a row
-row_letters : (R : Region) (letters : List ℕ) (r c n : ℕ) → IsKept R → AreLetters R letters → r < R.rows → c + n ≤ R.columns
+row_letters : (R : Region) (letters : List ℕ) (r c n : ℕ) → IsGrid R → AreLetters R letters → r < R.rows → c + n ≤ R.columns
     → take n (drop (r * R.columns + c) letters) ≡ map (λ c. letter (cell r c) (partner (tiles_in R letters) (cell r c))) (range_with_len c n)
 row_letters R letters r c zero k s h w = refl
 row_letters R letters r c (suc n) k s h w =
@@ -78,7 +79,7 @@ row_letters R letters r c (suc n) k s h w =
     shifted m = omega arith
 
 -- all rows are the drawing
-pub lines-drawing : (R : Region) (letters : List ℕ) (r n : ℕ) → IsKept R → AreLetters R letters → r + n ≤ R.rows
+pub lines-drawing : (R : Region) (letters : List ℕ) (r n : ℕ) → IsGrid R → AreLetters R letters → r + n ≤ R.rows
     → lines_of R.columns letters r n ≡ flat_map (λ r. map (λ c. letter (cell r c) (partner (tiles_in R letters) (cell r c))) (upto R.columns) ++ 10 ∷ []) (range_with_len r n)
 lines-drawing R letters r zero k s h = refl
 lines-drawing R letters r (suc n) k s h =
@@ -91,7 +92,7 @@ lines-drawing R letters r (suc n) k s h =
     add_zero m = omega arith
 
 -- a whole list of lines
-pub printed : (R : Region) (letters out : List ℕ) (rows columns : ℕ) → IsKept R → AreLetters R letters → rows ≡ R.rows → columns ≡ R.columns
+pub printed : (R : Region) (letters out : List ℕ) (rows columns : ℕ) → IsGrid R → AreLetters R letters → rows ≡ R.rows → columns ≡ R.columns
     → length out ≡ R.rows * (R.columns + 1) → take (rows * (columns + 1)) out ≡ lines_of columns letters 0 rows → out ≡ drawing R (tiles_in R letters)
 printed R letters out rows columns k s r c size e =
     sym (take_all (rows * (columns + 1)) out (le_of (ap (λ (m : ℕ). m * (columns + 1)) r ∙ ap (λ (m : ℕ). R.rows * (m + 1)) c) size))

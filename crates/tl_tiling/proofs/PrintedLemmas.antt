@@ -11,17 +11,18 @@ use Rattle.tl_definitions.specs.declared.Kind.TheVariants.{Square, Triangle}
 use Rattle.tl_definitions.specs.declared.Cell.{Cell}
 use Rattle.tl_definitions.specs.declared.Tile.{Tile}
 use Rattle.tl_definitions.specs.Lattice.{cell, is_cell, is_dark, are_neighbours, left, right, above, below}
-use Rattle.tl_definitions.specs.Region.{Region, has, upto}
-use Rattle.tl_definitions.specs.Input.{pieces, without_end, line_of, is_empty_line, Section, open_section, further_section}
-use Rattle.tl_definitions.specs.RegionText.{byte_at, is_blank}
+use Rattle.tl_definitions.specs.Region.{Region, has}
+use Rattle.tl_lists.specs.Lists.{upto}
+use Rattle.tl_formats.specs.Input.{pieces, without_end, line_of, is_empty_line, Section, open_section, further_section}
+use Rattle.tl_formats.specs.RegionText.{byte_at, is_blank}
 use Rattle.tl_definitions.specs.Tiling.{is_tiling, partner}
-use Rattle.tl_definitions.specs.Drawing.{named, named_at, Draws, letter, drawing, DrawingRefusal, drawing_refusal}
-use Rattle.tl_definitions.proofs.Lines.{without_end-last, without_end-other, open-line, open-empty_line, further-line}
-use Rattle.tl_definitions.proofs.Sublists.{In}
-use Rattle.tl_definitions.proofs.Partners.{In-has}
-use Rattle.tl_definitions.proofs.Regions.{is_cell-some, has-within}
+use Rattle.tl_formats.specs.Drawing.{named, named_at, Draws, letter, drawing, DrawingRefusal, drawing_refusal}
+use Rattle.tl_formats.proofs.Lines.{without_end-last, without_end-other, open-line, open-empty_line, further-line}
+use Rattle.tl_lists.proofs.Members.{In}
+use Rattle.tl_definitions.proofs.Cells.{In-has, is_cell-some}
+use Rattle.tl_definitions.proofs.Regions.{has-within}
 use Rattle.tl_definitions.proofs.Tilings.{TilingParts, tiling-parts}
-use Rattle.tl_grid.specs.Grid.{IsKept}
+use Rattle.tl_grid.specs.Grid.{IsGrid}
 use Rattle.tl_tiling.specs.Printed.{BeginsNoLine}
 use Rattle.tl_tiling.proofs.TilingLemmas.{tiling-matched, partner-outside, draws-same, draws-not_refused}
 
@@ -186,8 +187,8 @@ first_cell : (cells : List Cell) → cells ≢ [] → (a : Cell) × In a cells
 first_cell [] h = absurd (h refl)
 first_cell (a ∷ cells) h = (a, inl refl)
 
-rows-draw : (R : Region) (A : List Tile) → IsKept R → is_tiling R A ≡ true → Draws R (map (row R A) (upto R.rows)) A
-rows-draw R A kept t =
+rows-draw : (R : Region) (A : List Tile) → IsGrid R → is_tiling R A ≡ true → Draws R (map (row R A) (upto R.rows)) A
+rows-draw R A is_grid t =
     let tiling : TilingParts R A = tiling-parts R A t in
     record {
       tiling = t;
@@ -197,36 +198,36 @@ rows-draw R A kept t =
   where
     letters : TilingParts R A → (a : Cell) → has R a ≡ true → named_at (map (row R A) (upto R.rows)) a ≡ partner A a
     letters tiling a h =
-        let w : (a.r < R.rows) × (a.c < R.columns) = has-within R a kept.placed h in
+        let w : (a.r < R.rows) × (a.c < R.columns) = has-within R a is_grid.placed h in
         let (b, to, in_R, near, back) = tiling-matched R A tiling a h in
         ap (λ (o : Option ℕ). option_and_then (λ n. named n a) o) (printed-letter R A a w.0 w.1 ∙ ap (λ (o : Option Cell). Some (letter a o)) to)
         ∙ letter-back R.kind a b near
         ∙ sym to
 
-pub printed-draws : (R : Region) (A : List Tile) (rest : List ℕ) → IsKept R → is_tiling R A ≡ true → BeginsNoLine rest
+pub printed-draws : (R : Region) (A : List Tile) (rest : List ℕ) → IsGrid R → is_tiling R A ≡ true → BeginsNoLine rest
     → Draws R (further_section (drawing R A ++ rest)).lines A
-printed-draws R A rest kept t b =
-    let (a, i) = first_cell R.cells kept.nonempty in
-    let w : (a.r < R.rows) × (a.c < R.columns) = has-within R a kept.placed (In-has a R.cells i) in
+printed-draws R A rest is_grid t b =
+    let (a, i) = first_cell R.cells is_grid.nonempty in
+    let w : (a.r < R.rows) × (a.c < R.columns) = has-within R a is_grid.placed (In-has a R.cells i) in
     let lines : (further_section (drawing R A ++ rest)).lines ≡ map (row R A) (upto R.rows) =
     further-rows R A rest R.rows (omega (arith, w.1)) (omega (arith, w.0)) b in
-    subst (λ (ls : List (List ℕ)). Draws R ls A) (sym lines) (rows-draw R A kept t)
+    subst (λ (ls : List (List ℕ)). Draws R ls A) (sym lines) (rows-draw R A is_grid t)
 
 -- ---- what reading a printed drawing gives
 
-printed-bytes : (R : Region) (bytes rest : List ℕ) (A : List Tile) → IsKept R → is_tiling R A ≡ true → BeginsNoLine rest → bytes ≡ drawing R A ++ rest
+printed-bytes : (R : Region) (bytes rest : List ℕ) (A : List Tile) → IsGrid R → is_tiling R A ≡ true → BeginsNoLine rest → bytes ≡ drawing R A ++ rest
     → Draws R (further_section bytes).lines A
-printed-bytes R bytes rest A kept t b e = subst (λ (s : List ℕ). Draws R (further_section s).lines A) (sym e) (printed-draws R A rest kept t b)
+printed-bytes R bytes rest A is_grid t b e = subst (λ (s : List ℕ). Draws R (further_section s).lines A) (sym e) (printed-draws R A rest is_grid t b)
 
 -- it draws the same tiling
-pub printed-same : (R : Region) (bytes rest : List ℕ) (A B : List Tile) → IsKept R → Draws R (further_section bytes).lines B → is_tiling R A ≡ true → BeginsNoLine rest
+pub printed-same : (R : Region) (bytes rest : List ℕ) (A B : List Tile) → IsGrid R → Draws R (further_section bytes).lines B → is_tiling R A ≡ true → BeginsNoLine rest
     → bytes ≡ drawing R A ++ rest → B ≡ A
-printed-same R bytes rest A B kept d t b e = draws-same R (further_section bytes).lines B A d (printed-bytes R bytes rest A kept t b e)
+printed-same R bytes rest A B is_grid d t b e = draws-same R (further_section bytes).lines B A d (printed-bytes R bytes rest A is_grid t b e)
 
 -- no refusal of it is told
-pub printed-none : (R : Region) (bytes rest : List ℕ) (A : List Tile) (told : Option DrawingRefusal) → IsKept R
+pub printed-none : (R : Region) (bytes rest : List ℕ) (A : List Tile) (told : Option DrawingRefusal) → IsGrid R
     → IfSome told (λ f. drawing_refusal R (further_section bytes).lines ≡ Some f) → is_tiling R A ≡ true → BeginsNoLine rest
     → bytes ≡ drawing R A ++ rest → told ≡ None
-printed-none R bytes rest A None kept h t b e = refl
-printed-none R bytes rest A (Some f) kept h t b e =
-    cc (sym h, draws-not_refused R (further_section bytes).lines A (printed-bytes R bytes rest A kept t b e))
+printed-none R bytes rest A None is_grid h t b e = refl
+printed-none R bytes rest A (Some f) is_grid h t b e =
+    cc (sym h, draws-not_refused R (further_section bytes).lines A (printed-bytes R bytes rest A is_grid t b e))

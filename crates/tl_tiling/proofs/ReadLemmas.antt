@@ -8,17 +8,19 @@ use Rattle.std.proofs.lemmas.Option.{slice_get_past, slice_get_cases, get_or_fro
 use Rattle.std.proofs.Math.Nat.{mul_comm}
 use Rattle.tl_definitions.specs.declared.Cell.{Cell}
 use Rattle.tl_definitions.specs.Lattice.{cell}
-use Rattle.tl_definitions.specs.Region.{Region, has}
-use Rattle.tl_definitions.specs.Input.{Section}
+use Rattle.tl_definitions.specs.Region.{Region, has, row_part}
+use Rattle.tl_formats.specs.Input.{Section}
 use Rattle.tl_definitions.specs.Accepted.{IsPlaced}
-use Rattle.tl_definitions.specs.RegionText.{byte_at, is_blank, longest}
-use Rattle.tl_definitions.specs.Drawing.{is_letter, is_allowed, first_bad_letter}
-use Rattle.tl_definitions.specs.Marks.{row_part}
-use Rattle.tl_definitions.proofs.Regions.{nat_cases, row-complete, same_test, has-within}
-use Rattle.tl_definitions.proofs.Sublists.{In, In-any}
-use Rattle.tl_definitions.proofs.Raster.{find-filter, filter-row_same}
-use Rattle.tl_definitions.proofs.RegionTexts.{length-longest}
-use Rattle.tl_definitions.proofs.Drawings.{find-rows_none, find-rows_first, find-row_cut}
+use Rattle.tl_formats.specs.RegionText.{byte_at, is_blank, longest}
+use Rattle.tl_formats.specs.Drawing.{is_letter, is_allowed, first_bad_letter}
+use Rattle.tl_definitions.proofs.Regions.{row-complete, has-within}
+use Rattle.tl_lists.proofs.Tests.{nat_cases, same_test}
+use Rattle.tl_definitions.proofs.Cells.{In-any}
+use Rattle.tl_lists.proofs.Members.{In}
+use Rattle.tl_definitions.proofs.Raster.{filter-row_same}
+use Rattle.tl_lists.proofs.Searches.{find-filter}
+use Rattle.tl_formats.proofs.RegionTexts.{length-longest}
+use Rattle.tl_formats.proofs.Drawings.{find-rows_none, find-rows_first, find-row_cut}
 use Rattle.tl_tiling.specs.Letters.{letter_at, is_allowed_in, bad_in_row, ReadsLine, AreReadBefore, HasNoCellFrom, IsFirstCellFrom, AreReadLetters}
 
 -- ---- the first bad letter of all rows
@@ -121,7 +123,7 @@ up_to-line R all left next n letters more line bad placed s e b none size t = re
   read = record {
     size = size ∙ s.read.size;
     read = λ a h i. read a h i (nat_cases a.r n);
-    dotted = λ a h k o. t.kept a h k (inr o) ∙ s.read.dotted a h k o;
+    dotted = λ a h k o. t.is_grid a h k (inr o) ∙ s.read.dotted a h k o;
     allowed = λ i h. allowed i h (nat_cases i n);
   };
 }
@@ -136,7 +138,7 @@ up_to-line R all left next n letters more line bad placed s e b none size t = re
     read a h i (inl same) = ap (λ (k : ℕ). slice_get (slice_index_or all.lines k []) a.c) same ∙ ap (λ (l : List ℕ). slice_get l a.c) here.0 ∙ t.read a same i
     read a h i (inr other) =
         let w : (a.r < R.rows) × (a.c < R.columns) = has-within R a placed i in
-        s.read.read a (omega (arith, h, other)) i ∙ ap (λ (k : ℕ). Some k) (sym (t.kept a w.0 w.1 (inl other)))
+        s.read.read a (omega (arith, h, other)) i ∙ ap (λ (k : ℕ). Some k) (sym (t.is_grid a w.0 w.1 (inl other)))
 
     allowed : (i : ℕ) → i < n + 1 → (i ≡ n) ⊎ (¬ (i ≡ n)) → bad_in_row R all.lines i ≡ None
     allowed i h (inl same) =

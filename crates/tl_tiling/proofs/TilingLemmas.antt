@@ -6,16 +6,19 @@ use Rattle.tl_definitions.specs.declared.Cell.{Cell}
 use Rattle.tl_definitions.specs.declared.Tile.{Tile}
 use Rattle.tl_definitions.specs.Lattice.{cell_eq, cell_lt, are_neighbours, is_cell, left, right, above, below}
 use Rattle.tl_definitions.specs.Region.{Region, has}
-use Rattle.tl_definitions.specs.RegionText.{byte_at, is_blank}
+use Rattle.tl_formats.specs.RegionText.{byte_at, is_blank}
 use Rattle.tl_definitions.specs.Tiling.{tile_lt, covers, is_tiling, other_cell, partner}
-use Rattle.tl_definitions.specs.Drawing.{is_letter, named, named_at, Draws, is_allowed, is_answered, is_matched, first_unmatched, drawing_refusal}
-use Rattle.tl_definitions.proofs.Regions.{cell_eq-same, some_same}
+use Rattle.tl_formats.specs.Drawing.{is_letter, named, named_at, Draws, is_allowed, is_answered, is_matched, first_unmatched, drawing_refusal}
+use Rattle.tl_definitions.proofs.Cells.{cell_eq-same, In-any, cell_eq-refl, cell_lt-irreflexive, cell_lt-transitive, In-has}
+use Rattle.tl_lists.proofs.Tests.{some_same}
 use Rattle.tl_definitions.proofs.Neighbours.{neighbours-back, neighbours-differ}
-use Rattle.tl_definitions.proofs.Sublists.{In, In-any, cell_eq-refl, cell_lt-irreflexive, cell_lt-transitive, tile_lt-irreflexive, tile_lt-transitive}
-use Rattle.tl_definitions.proofs.Ordered.{linked-same, find-only, Only}
-use Rattle.tl_definitions.proofs.Partners.{In-has, IsMatched, AreMatched}
-use Rattle.tl_definitions.proofs.NextCorner.{none-find}
-use Rattle.tl_definitions.proofs.Drawings.{AgreeOn, refused-none, first_unmatched-same}
+use Rattle.tl_definitions.proofs.Tiles.{tile_lt-irreflexive, tile_lt-transitive}
+use Rattle.tl_lists.proofs.Members.{In}
+use Rattle.tl_lists.proofs.Orders.{linked-same}
+use Rattle.tl_lists.proofs.Searches.{find-only, none-find}
+use Rattle.tl_lists.proofs.Counts.{Only}
+use Rattle.tl_definitions.proofs.Partners.{IsMatched, AreMatched}
+use Rattle.tl_formats.proofs.Drawings.{AgreeOn, refused-none, first_unmatched-same}
 use Rattle.tl_definitions.proofs.Tilings.{TileParts, TilingParts, tiling-parts}
 
 module _ (R : Region) (A : List Tile) (tiling : TilingParts R A) where

@@ -3,11 +3,10 @@ use Rattle.std.specs.Prelude.{◌≡◌, ℕ, ◌+◌, ◌*◌, ◌<◌, ◌≤�
 use Rattle.std.specs.List.{list_all}
 use Rattle.tl_definitions.specs.declared.Cell.{Cell}
 use Rattle.tl_definitions.specs.declared.Tile.{Tile}
-use Rattle.tl_definitions.specs.Region.{Region, has}
-use Rattle.tl_definitions.specs.RegionText.{byte_at, is_blank}
-use Rattle.tl_definitions.specs.Marks.{row_part}
+use Rattle.tl_definitions.specs.Region.{Region, has, row_part}
+use Rattle.tl_formats.specs.RegionText.{byte_at, is_blank}
 use Rattle.tl_definitions.specs.Tiling.{tiles_by}
-use Rattle.tl_definitions.specs.Drawing.{is_letter, named, is_matched, first_bad_letter, DrawingRefusal, bad_letter}
+use Rattle.tl_formats.specs.Drawing.{is_letter, named, is_matched, first_bad_letter, DrawingRefusal, bad_letter}
 
 -- the letter at a place
 abbrev pub letter_at : Region → List ℕ → Cell → ℕ
@@ -36,7 +35,7 @@ is_allowed_in R line a = if has R a then is_letter (slice_get line a.c) else is_
 -- the letters of the row become those of the line, and all others stay
 pub record ReadsLine (R : Region) (r : ℕ) (line old new : List ℕ) : Type 0 where
   pub read : (a : Cell) → a.r ≡ r → has R a ≡ true → slice_get line a.c ≡ Some (letter_at R new a)
-  pub kept : (a : Cell) → a.r < R.rows → a.c < R.columns → ((a.r ≡ r → ⊥) ⊎ (has R a ≡ false)) → letter_at R new a ≡ letter_at R old a
+  pub is_grid : (a : Cell) → a.r < R.rows → a.c < R.columns → ((a.r ≡ r → ⊥) ⊎ (has R a ≡ false)) → letter_at R new a ≡ letter_at R old a
 
 -- the first place in a row whose byte isn't allowed
 abbrev pub bad_in_row : Region → List (List ℕ) → ℕ → Option Cell

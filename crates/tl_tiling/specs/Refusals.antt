@@ -1,6 +1,6 @@
 -- The refusal that a fault tells; want of memory tells none.
 use Rattle.std.specs.Prelude.{Option, Some, None}
-use Rattle.tl_definitions.specs.Drawing.{DrawingRefusal, bad_letter, unmatched}
+use Rattle.tl_formats.specs.Drawing.{DrawingRefusal, bad_letter, unmatched}
 use Rattle.tl_tiling.specs.declared.fault.DrawFault.{DrawFault}
 use Rattle.tl_tiling.specs.declared.fault.DrawFault.TheVariants.{BadLetter, Unmatched, OutOfMemory}
 

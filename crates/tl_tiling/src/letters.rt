@@ -1,17 +1,17 @@
 //! The letters of a drawing, one for each place of the region's rows and columns.
 
 ghost use Rattle.std.specs.Prelude.{◌≡◌, ◌*◌, ◌≤◌, ◌^◌, not, max, length, find, slice_get, IfOk, IfErr, IfSome, MatchOption, None, Some};
-ghost use Rattle.tl_definitions.specs.Region.{has};
-ghost use Rattle.tl_definitions.specs.RegionText.{is_blank as is_blank_byte};
-ghost use Rattle.tl_definitions.specs.Drawing.{is_letter as is_letter_byte, first_bad_letter};
-ghost use Rattle.tl_definitions.specs.Marks.{row_part};
-ghost use Rattle.tl_grid.specs.Grid.{IsKept};
+ghost use Rattle.tl_definitions.specs.Region.{has, row_part};
+ghost use Rattle.tl_formats.specs.RegionText.{is_blank as is_blank_byte};
+ghost use Rattle.tl_formats.specs.Drawing.{is_letter as is_letter_byte, first_bad_letter};
+ghost use Rattle.tl_grid.specs.Grid.{IsGrid};
 ghost use Rattle.tl_tiling.specs.Letters.{is_allowed_in, ReadsLine, AreReadBefore, HasNoCellFrom, IsFirstCellFrom, AreReadLetters, IsFirstBadLetter};
 ghost use Rattle.tl_tiling.specs.Refusals.{refusal_by};
 ghost use Rattle.tl_lines.specs.Lines.{section_at};
 
 use crate::fault::DrawFault;
 use std::alloc::Global;
+use tl_formats::INPUT_LIMIT;
 use tl_lattice::Cell;
 use tl_lines::next_line;
 use tl_region::Region;
@@ -38,11 +38,12 @@ fn byte_at(line: &[u8], c: u32) -> Option<u8>
 // Puts the letters of a line into its row, or gives its first place whose byte isn't allowed.
 fn read_line(region: &Region, r: u32, line: &[u8], letters: &mut Vec<u8>) -> Option<Cell>
     requires size { length letters.old.items ≡ region.now.rows * region.now.columns }
-    requires short { length line.now ≤ 2 ^ 22 }
-    ensures bad { result ≡ find (λ a. not (is_allowed_in region.now line.now a)) (row_part r 0 (max region.now.columns (length line.now))) }
+    requires short { length line.now ≤ INPUT_LIMIT }
+    ensures bad { result ≡ find (λ a. not (is_allowed_in region.now line.now a))
+        (row_part r 0 (max region.now.columns (length line.now))) }
     ensures size { length letters.new.items ≡ length letters.old.items }
     ensures read { result ≡ None → ReadsLine region.now r line.now letters.old.items letters.new.items }
-    ensures kept { IsKept region.now }
+    ensures is_grid { IsGrid region.now }
 {
     let columns = region.columns();
     let width = columns.max(line.len() as u32);
@@ -73,8 +74,9 @@ fn read_lines<'t>(
     letters: &mut Vec<u8>,
 ) -> Result<(u32, &'t [u8]), Cell>
     requires dots { AreReadBefore region.now (section_at text.now).lines 0 letters.old.items }
-    requires short { length text.now ≤ 2 ^ 22 }
-    ensures read { IfOk result (λ p. AreReadBefore region.now (section_at text.now).lines p.0 letters.new.items) }
+    requires short { length text.now ≤ INPUT_LIMIT }
+    ensures read { IfOk result (λ p. AreReadBefore region.now
+        (section_at text.now).lines p.0 letters.new.items) }
     ensures count { IfOk result (λ p. p.0 ≡ length (section_at text.now).lines) }
     ensures rest { IfOk result (λ p. p.1.now ≡ (section_at text.now).rest) }
     ensures within { IfOk result (λ p. length p.1.now ≤ length text.now) }
@@ -125,12 +127,13 @@ pub fn read_letters<'t>(
     region: &Region,
     text: &'t [u8],
 ) -> Result<(Vec<u8>, &'t [u8]), DrawFault>
-    requires { length text.now ≤ 2 ^ 22 }
+    requires { length text.now ≤ INPUT_LIMIT }
     ensures read { IfOk result (λ p. AreReadLetters region.now (section_at text.now).lines p.0.items) }
     ensures rest { IfOk result (λ p. p.1.now ≡ (section_at text.now).rest) }
     ensures within { IfOk result (λ p. length p.1.now ≤ length text.now) }
-    ensures refused { IfErr result (λ fault. IfSome (refusal_by fault) (IsFirstBadLetter region.now (section_at text.now).lines)) }
-    ensures kept { IsKept region.now }
+    ensures refused { IfErr result (λ fault. IfSome (refusal_by fault)
+        (IsFirstBadLetter region.now (section_at text.now).lines)) }
+    ensures is_grid { IsGrid region.now }
 {
     let size = region.rows() as usize * region.columns() as usize;
     let Ok(mut letters) = vec![in alloc; b'.'; size] else {

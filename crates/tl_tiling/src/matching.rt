@@ -2,19 +2,20 @@
 
 ghost use Rattle.std.specs.Prelude.{◌≡◌, ◌*◌, ◌<◌, ◌≤◌, ◌^◌, not, length, find, IsTrue};
 ghost use Rattle.std.specs.List.{list_any};
-ghost use Rattle.tl_grid.specs.Grid.{IsKept};
+ghost use Rattle.tl_grid.specs.Grid.{IsGrid};
 ghost use Rattle.tl_definitions.specs.Lattice.{is_cell as is_same_cell, are_neighbours as share_a_side};
 ghost use Rattle.tl_definitions.specs.Region.{has};
-ghost use Rattle.tl_definitions.specs.Drawing.{named as named_by, is_matched as is_matched_by};
+ghost use Rattle.tl_formats.specs.Drawing.{named as named_by, is_matched as is_matched_by};
 ghost use Rattle.tl_tiling.specs.Letters.{partner_in as partner_by};
 
+use tl_definitions::COORDINATE_LIMIT;
 use tl_lattice::{Cell, Kind, neighbours};
 use tl_region::Region;
 
 // The cell that a letter names, from where it stands.
 fn named(letter: u8, cell: Cell) -> Option<Cell>
-    requires row { cell.r ≤ 2 ^ 20 }
-    requires column { cell.c ≤ 2 ^ 20 }
+    requires row { cell.r ≤ COORDINATE_LIMIT }
+    requires column { cell.c ≤ COORDINATE_LIMIT }
     ensures { result ≡ named_by letter cell }
 {
     let Cell { r, c } = cell;
@@ -43,8 +44,8 @@ fn is_among(cell: Cell, places: &[Option<Cell>]) -> bool
 }
 
 fn are_neighbours(kind: Kind, first: Cell, second: Cell) -> bool
-    requires row { first.r ≤ 2 ^ 20 }
-    requires column { first.c ≤ 2 ^ 20 }
+    requires row { first.r ≤ COORDINATE_LIMIT }
+    requires column { first.c ≤ COORDINATE_LIMIT }
     ensures { result ≡ share_a_side kind first second }
 {
     let near = neighbours(kind, first);
@@ -56,7 +57,7 @@ pub fn partner_in(region: &Region, letters: &[u8], cell: Cell) -> Option<Cell>
     requires size { length letters.now ≡ region.now.rows * region.now.columns }
     requires cell { IsTrue (has region.now cell) }
     ensures partner { result ≡ partner_by region.now letters.now cell }
-    ensures kept { IsKept region.now }
+    ensures is_grid { IsGrid region.now }
 {
     let columns = region.columns() as usize;
     named(letters[cell.r as usize * columns + cell.c as usize], cell)
@@ -81,8 +82,9 @@ fn is_matched(region: &Region, letters: &[u8], cell: Cell) -> bool
 /// The first cell of the region in raster order that isn't matched.
 pub fn first_unmatched(region: &Region, letters: &[u8]) -> Option<Cell>
     requires size { length letters.now ≡ region.now.rows * region.now.columns }
-    ensures first { result ≡ find (λ a. not (is_matched_by region.now (partner_by region.now letters.now) a)) region.now.cells }
-    ensures kept { IsKept region.now }
+    ensures first { result ≡ find (λ a. not (is_matched_by region.now
+        (partner_by region.now letters.now) a)) region.now.cells }
+    ensures is_grid { IsGrid region.now }
 {
     for i in 0..region.cell_count() {
         let cell = region.cell(i);

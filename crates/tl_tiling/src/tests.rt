@@ -4,13 +4,14 @@ ghost use Rattle.std.specs.Prelude.{◌≤◌, ◌^◌, length};
 
 use crate::{DrawFault, read_drawing};
 use std::alloc::{AllocError, Global};
+use tl_formats::INPUT_LIMIT;
 use tl_lattice::Cell;
 use tl_region::{Region, read_region};
 
 // What refuses a drawing of the region that a text describes, if the text does.
 fn refusal(alloc: Global, text: &[u8], drawn: &[u8]) -> Option<DrawFault>
-    requires text { length text.now ≤ 2 ^ 22 }
-    requires drawn { length drawn.now ≤ 2 ^ 22 }
+    requires text { length text.now ≤ INPUT_LIMIT }
+    requires drawn { length drawn.now ≤ INPUT_LIMIT }
 {
     let (region, _) = read_region(alloc, text).ok()?;
     read_drawing(alloc, &region, drawn).err()

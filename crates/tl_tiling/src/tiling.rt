@@ -3,8 +3,8 @@
 ghost use Rattle.std.specs.Prelude.{◌≡◌, ◌+◌, ◌*◌, [], ◌∷◌, ◌++◌, length, IsTrue, Some};
 ghost use Rattle.tl_definitions.specs.Region.{has};
 ghost use Rattle.tl_definitions.specs.Tiling.{partner, is_tiling};
-ghost use Rattle.tl_definitions.specs.Drawing.{drawing};
-ghost use Rattle.tl_grid.specs.Grid.{IsKept};
+ghost use Rattle.tl_formats.specs.Drawing.{drawing};
+ghost use Rattle.tl_grid.specs.Grid.{IsGrid};
 
 use crate::matching::partner_in;
 use std::marker::Model;
@@ -20,14 +20,14 @@ pub struct Tiling<'a> {
 
 impl<'a> Model for Tiling<'a> {
     ghost use Rattle.tl_definitions.specs.Tiling.{Tiled};
-    ghost use Rattle.tl_grid.specs.Grid.{IsKept};
+    ghost use Rattle.tl_grid.specs.Grid.{IsGrid};
     ghost use Rattle.tl_tiling.specs.Letters.{AreLetters, tiles_in};
 
     ghost Value = { Tiled };
 
     ghost view = { λ s. record { region = s.region.now; tiles = tiles_in s.region.now s.letters.items } };
 
-    ghost invariant = { λ s. IsKept s.region.now × AreLetters s.region.now s.letters.items };
+    ghost invariant = { λ s. IsGrid s.region.now × AreLetters s.region.now s.letters.items };
 }
 
 impl<'a> Tiling<'a> {
@@ -35,7 +35,7 @@ impl<'a> Tiling<'a> {
 
     /// The tiling of these letters.
     pub(crate) fn of(region: &'a Region, letters: Vec<u8>) -> Tiling<'a>
-        requires kept { IsKept region.now }
+        requires is_grid { IsGrid region.now }
         requires letters { AreLetters region.now letters.items }
         ensures { result ≡ record { region = region.now; tiles = tiles_in region.now letters.items } }
     {

@@ -1,6 +1,6 @@
 use Rattle.std.proofs.Common.{sym, subst}
 use Rattle.tl_definitions.specs.Accepted.{IsCircuit}
-use Rattle.tl_definitions.proofs.NextCorner.{find-In}
+use Rattle.tl_lists.proofs.Searches.{find-In}
 use Rattle.tl_definitions.specs.Region.{corner_places}
 use Rattle.tl_definitions.specs.Boundary.{is_boundary_corner}
 use Rattle.tl_boundary.proofs.RoundLemmas.{GoesRound, round-some, round-none}
@@ -22,7 +22,7 @@ round c =
     ]
 
 pub of-requires : goal.of-requires
-of-requires c = (c.args.region.now, c.in_ok-walk.ensures.kept, (round c).circuit, (round c).keeps)
+of-requires c = (c.args.region.now, c.in_ok-walk.ensures.is_grid, (round c).circuit, (round c).keeps)
 
 pub returns-clause-only : goal.returns-clause-only
 returns-clause-only c other d =

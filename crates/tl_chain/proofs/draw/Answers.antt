@@ -1,11 +1,11 @@
 use Rattle.std.proofs.Common.{◌≡◌, ℕ, ◌^◌, ◌≤◌, ◌%◌, ◌*◌, Bool, false, IsTrue, arith, rules, refl, sym, ◌∙◌, ap, subst, below_more}
 use Rattle.std.proofs.lemmas.Nat.{one_shl}
 use Rattle.std.proofs.Math.Pow.{pow_mono}
-use Rattle.tl_definitions.specs.Powers.{IsLeastPower, NoPower}
-use Rattle.tl_definitions.specs.Chain.{ChainMeaning, SameMeaning, ChainGathers}
+use Rattle.tl_lists.specs.Powers.{IsLeastPower, NoPower}
+use Rattle.tl_chain.specs.Chain.{ChainMeaning, SameMeaning, ChainGathers}
 use Rattle.tl_chain.specs.declared.Drawn.TheVariants.{At, Late}
 use Rattle.tl_chain.proofs.Meaning.{SameMeaning-sym, SameMeaning-trans, ChainGathers-same}
-use Rattle.tl_definitions.proofs.Laws.{same_power}
+use Rattle.tl_lists.proofs.Powers.{same_power}
 use Rattle.tl_chain.proofs.Search.{IsLeastPower-first, NoPower-least, NoPower-last}
 use Rattle.tl_chain.proofs.draw.Given
 use Rattle.tl_chain.proofs.draw.Goals as goal
@@ -42,7 +42,7 @@ begun g c =
     let top : c.loop-exponent.exponent ≤ 30 = omega arith in
     let within : c.loop-exponent.exponent ≤ c.args.bound = omega arith in
     let M = g.C.Chain.meaning c.args.chain.now in
-    let here = ChainGathers-same M _ _ c.loop-exponent.invariant.kept (c.gathers.ensures.gathers.0 c.if-gathers.true) in
+    let here = ChainGathers-same M _ _ c.loop-exponent.invariant.same_meaning (c.gathers.ensures.gathers.0 c.if-gathers.true) in
     IsLeastPower-first (ChainGathers M) _ c.loop-exponent.exponent within c.loop-exponent.invariant.none
     (subst (ChainGathers M) (start_of c.loop-exponent.exponent top) here)
 
@@ -66,11 +66,11 @@ pub loop-exponent-preserved : goal.loop-exponent-preserved
 loop-exponent-preserved g c =
     let top : c.loop-exponent.exponent ≤ 30 = omega arith in
     record {
-      kept = SameMeaning-trans _ _ _ c.loop-exponent.invariant.kept c.gathers.ensures.kept;
+      same_meaning = SameMeaning-trans _ _ _ c.loop-exponent.invariant.same_meaning c.gathers.ensures.same_meaning;
       low_belongs = search rules;
       high_belongs = search rules;
       none = below_more _ _ c.loop-exponent.invariant.none
-          (none_here _ _ _ _ _ (start_of c.loop-exponent.exponent top) c.loop-exponent.invariant.kept c.gathers.ensures.gathers.1 c.if-gathers.false);
+          (none_here _ _ _ _ _ (start_of c.loop-exponent.exponent top) c.loop-exponent.invariant.same_meaning c.gathers.ensures.gathers.1 c.if-gathers.false);
     }
 
 none_left : (g : Given.Over) (c : goal.Else-exponent-bound g)
@@ -79,7 +79,7 @@ none_left g c =
     let top : c.loop-exponent.exponent ≤ 30 = omega arith in
     let last : c.args.bound ≤ c.loop-exponent.exponent = omega arith in
     NoPower-last (ChainGathers (g.C.Chain.meaning c.args.chain.now)) _ c.loop-exponent.exponent last c.loop-exponent.invariant.none
-    (none_here _ _ _ _ _ (start_of c.loop-exponent.exponent top) c.loop-exponent.invariant.kept c.gathers.ensures.gathers.1 c.if-gathers.false)
+    (none_here _ _ _ _ _ (start_of c.loop-exponent.exponent top) c.loop-exponent.invariant.same_meaning c.gathers.ensures.gathers.1 c.if-gathers.false)
 
 pub returns-else-gathers-clause-at : goal.returns-else-gathers-clause-at
 returns-else-gathers-clause-at g c = no_start (ChainGathers (g.C.Chain.meaning c.args.chain.now)) _ (none_left g c)

@@ -6,9 +6,9 @@ use Rattle.tl_chain.proofs.gathers.Goals as goal
 carried : (g : Given.Over) (c : goal.After-same g)
     → AreEndsCarried (g.C.Chain.meaning c.args.chain.now) c.args.from c.stretch.new.low c.stretch.new.high
 carried g c = record {
-  low_is = c.stretch.ensures.low ∙ sym (c.ends.ensures.kept.carried c.ends.new.low c.args.from)
+  low_is = c.stretch.ensures.low ∙ sym (c.ends.ensures.same_meaning.carried c.ends.new.low c.args.from)
       ∙ ap (λ s. (g.C.Chain.meaning c.args.chain.now).carried s c.args.from) c.ends.ensures.low;
-  high_is = c.stretch.ensures.high ∙ sym (c.ends.ensures.kept.carried c.ends.new.high c.args.from)
+  high_is = c.stretch.ensures.high ∙ sym (c.ends.ensures.same_meaning.carried c.ends.new.high c.args.from)
       ∙ ap (λ s. (g.C.Chain.meaning c.args.chain.now).carried s c.args.from) c.ends.ensures.high;
 }
 

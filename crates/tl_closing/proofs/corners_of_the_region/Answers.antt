@@ -1,16 +1,16 @@
-use Rattle.std.proofs.Common.{arith, ◌<◌, [], ◌∷◌, length, ◌≡◌, true, List, inl, inr, refl, sym, subst}
+use Rattle.std.proofs.Common.{arith, ◌<◌, [], ◌∷◌, length, ◌≡◌, true, List, inl, refl, sym, subst}
 use Rattle.tl_definitions.specs.declared.Corner.{Corner}
 use Rattle.tl_definitions.specs.declared.Cell.{Cell}
 use Rattle.tl_definitions.specs.Lattice.{Side}
 use Rattle.tl_definitions.specs.Region.{is_corner_of, boundary}
 use Rattle.tl_definitions.specs.Accepted.{circuit_corners}
-use Rattle.tl_definitions.proofs.Sublists.{In, In-map_parts, slice_get-In}
+use Rattle.tl_lists.proofs.Members.{In, In-map_parts, slice_get-In}
 use Rattle.tl_definitions.proofs.InnerNumbers.{inner-at}
 use Rattle.tl_closing.proofs.Edges.{Distinct-cells}
 use Rattle.tl_closing.proofs.Circuit.{walk-boundary, boundary-walk}
 use Rattle.tl_closing.proofs.Start.{boundary-corner, boundary-some}
-use Rattle.tl_closing.proofs.Ring.{inner-left}
-use Rattle.tl_closing.proofs.Changed.{step-ends}
+use Rattle.tl_closing.proofs.InnerSteps.{inner-of_region}
+use Rattle.tl_closing.proofs.OnCircuit.{on_circuit-inner}
 use Rattle.tl_closing.proofs.corners_of_the_region.Goals as goal
 
 pub returns-clause-on_circuit : goal.returns-clause-on_circuit
@@ -20,9 +20,7 @@ returns-clause-on_circuit c R walk k v placed circuit e = go (In-map_parts (λ (
     go (s, i, f) = subst (λ (u : Corner). is_corner_of R u ≡ true) (sym f) (boundary-corner R s (walk-boundary R (Distinct-cells R placed) walk circuit s i))
 
 pub returns-clause-inner : goal.returns-clause-inner
-returns-clause-inner c R i v e =
-    let (w, left) = inner-left R v (inner-at R v i e) in
-    elim left.joined [ inl j ↦ (step-ends R w v j).1 | inr j ↦ (step-ends R v w j).0 ]
+returns-clause-inner c R i v e = inner-of_region R v (inner-at R v i e)
 
 pub returns-clause-some : goal.returns-clause-some
 returns-clause-some c R walk accepted circuit = with_cells R.cells accepted.nonempty (λ a i. boundary-some R a i)
@@ -36,3 +34,6 @@ returns-clause-some c R walk accepted circuit = with_cells R.cells accepted.none
     with_cells (a ∷ cells) filled_up f =
         let (s, i) = f a (inl refl) in
         filled walk s (boundary-walk R (Distinct-cells R accepted.placed) walk circuit s i)
+
+pub returns-clause-inner_or_on_circuit : goal.returns-clause-inner_or_on_circuit
+returns-clause-inner_or_on_circuit c R walk v placed circuit of_region = on_circuit-inner R placed walk circuit v of_region

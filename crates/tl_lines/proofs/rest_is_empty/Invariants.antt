@@ -1,5 +1,5 @@
 use Rattle.std.proofs.Common.{◌≡◌, length}
-use Rattle.tl_definitions.specs.Input.{rest_is_empty}
+use Rattle.tl_formats.specs.Input.{rest_is_empty}
 use Rattle.tl_lines.proofs.rest_is_empty.Given as goal
 
 abbrev pub invariant-loop-rest : goal.invariant-loop-rest

@@ -1,9 +1,15 @@
 use Rattle.std.proofs.Common.{◌≡◌, ◌≤◌, length}
-use Rattle.tl_definitions.specs.Input.{further_section}
+use Rattle.tl_formats.specs.Input.{further_section}
+use Rattle.tl_lines.specs.Lines.{after_empty_lines}
 use Rattle.tl_lines.proofs.skip_empty_lines.Given as goal
 
-abbrev pub invariant-loop-line : goal.invariant-loop-line
-invariant-loop-line l = (further_section l.rest ≡ further_section l.bytes) × (length l.rest ≤ length l.bytes)
+abbrev pub invariant-lines : goal.invariant-lines
+invariant-lines l =
+    record {
+      section : further_section l.left ≡ further_section l.bytes;
+      rest : after_empty_lines l.left ≡ after_empty_lines l.bytes;
+      left : length l.left ≤ length l.bytes;
+    }
 
-abbrev pub decreases-loop-line : goal.decreases-loop-line
-decreases-loop-line l = length l.rest
+abbrev pub decreases-lines : goal.decreases-lines
+decreases-lines l = length l.left

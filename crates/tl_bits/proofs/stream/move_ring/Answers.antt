@@ -5,8 +5,8 @@ use Rattle.tl_bits.proofs.stream.move_ring.Goals as goal
 pub returns-then-k-first-clause-held : goal.returns-then-k-first-clause-held
 returns-then-k-first-clause-held c =
     let first = c.args.first in
-    let kept = holds_part c.requires.held (first + 64) (first + 128) (omega arith) (omega arith) in
-    put_above c.put_blocks.ensures.words kept (omega arith) (first + 64 + 128) (omega arith) (omega arith)
+    let is_grid = holds_part c.requires.held (first + 64) (first + 128) (omega arith) (omega arith) in
+    put_above c.put_blocks.ensures.words is_grid (omega arith) (first + 64 + 128) (omega arith) (omega arith)
 
 pub returns-clause-held : goal.returns-clause-held
 returns-clause-held c =

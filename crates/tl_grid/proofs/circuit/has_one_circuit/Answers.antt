@@ -6,8 +6,8 @@ use Rattle.tl_grid.proofs.WalkLemmas.{MarksClosedWalk, is_open, open-boundary, f
 use Rattle.tl_grid.proofs.circuit.has_one_circuit.Goals as goal
 use Rattle.tl_grid.proofs.circuit.has_one_circuit.Goals.{in-Some, in_default}
 
-pub walk-requires-clause-kept : goal.walk-requires-clause-kept
-walk-requires-clause-kept c = c.new.ensures.kept
+pub walk-requires-clause-is_grid : goal.walk-requires-clause-is_grid
+walk-requires-clause-is_grid c = c.new.ensures.is_grid
 
 pub walk-requires-clause-start : goal.walk-requires-clause-start
 walk-requires-clause-start c = open-boundary c.args.grid.now c.in_ok-marks.marks c.in-Some.start c.in-Some.ensures
@@ -17,7 +17,7 @@ returns c =
     let R = c.args.grid.now in
     let marks = c.match-first_unmarked.marks in
     let fresh = fresh-unmarked c.in_ok-marks.marks _ c.in_ok-marks.ensures.flags in
-    let placed = c.new.ensures.kept.placed in
+    let placed = c.new.ensures.is_grid.placed in
     let scanned : c.first_unmarked-2.result ≡ find (is_open R marks) (corner_places R) = c.first_unmarked-2.ensures in
     elim c.match-first_unmarked.branch [
       | in-Some w ↦

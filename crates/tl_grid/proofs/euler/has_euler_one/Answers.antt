@@ -53,8 +53,8 @@ loop-x-preserved c =
 pub loop-r-preserved : goal.loop-r-preserved
 loop-r-preserved c = record {
   counted = counted-row_end c.args.grid.now c.loop-x.corners c.loop-x.edges c.loop-r.r c.loop-x.x (omega arith) c.loop-x.invariant.counted;
-  few_corners = omega (arith, c.loop-x.invariant.few_corners, c.columns-x-end.ensures.kept.columns_within);
-  few_edges = omega (arith, c.loop-x.invariant.few_edges, c.columns-x-end.ensures.kept.columns_within);
+  few_corners = omega (arith, c.loop-x.invariant.few_corners, c.columns-x-end.ensures.is_grid.columns_within);
+  few_edges = omega (arith, c.loop-x.invariant.few_edges, c.columns-x-end.ensures.is_grid.columns_within);
 }
 
 pub returns : goal.returns

@@ -6,7 +6,7 @@ use Rattle.tl_grid.proofs.inner.inner_of.Goals as goal
 
 pub add-requires : goal.add-requires
 add-requires c =
-    few_among c.args.grid.now c.loop-r.r c.loop-x.x c.loop-x.inner c.rows-r-end.ensures.kept
+    few_among c.args.grid.now c.loop-r.r c.loop-x.x c.loop-x.inner c.rows-r-end.ensures.is_grid
     (omega (arith, c.loop-r-test.true, c.rows-r-end.ensures.rows)) (omega (arith, c.loop-x-test.true, c.columns-x-end.ensures.columns)) c.loop-x.invariant
 
 pub loop-x-preserved : goal.loop-x-preserved

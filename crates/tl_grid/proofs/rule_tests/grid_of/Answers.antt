@@ -12,12 +12,12 @@ flags_of-requires-clause-within c =
     let placed : IsPlaced R = found-placed R.kind (is_drawn c.args.picture.now R.columns) R.rows R.columns R.cells c.in_ok-cells.ensures in
     subst (All (λ a. (a.r < R.rows) × (a.c < R.columns))) (sym c.as_slice.ensures.value) (cells_within R placed)
 
-pub with_flags-requires-clause-kept : goal.with_flags-requires-clause-kept
-with_flags-requires-clause-kept c = record {
+pub with_flags-requires-clause-is_grid : goal.with_flags-requires-clause-is_grid
+with_flags-requires-clause-is_grid c = record {
   placed =
       found-placed c.args.kind (is_drawn c.args.picture.now c.unwrap_or-columns.result) c.div_ceil-rows.result c.unwrap_or-columns.result c.in_ok-cells.cells.items
       c.in_ok-cells.ensures;
   nonempty = λ e. omega (arith, ap length e, not_zero _ c.is_empty.result c.is_empty.ensures c.if-is_empty.false);
-  rows_within = c.if-rows-gt512.false;
-  columns_within = c.if-columns-gt512.false;
+  rows_within = c.if-rows.false;
+  columns_within = c.if-columns.false;
 }

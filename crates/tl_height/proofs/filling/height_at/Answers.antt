@@ -1,11 +1,10 @@
 use Rattle.std.proofs.Common.{◌≡◌, ℕ, Bool, Option, ◌-◌, length, get_or, true, false, List, sym, ◌∙◌, ap, subst, arith, ℤ, pos, ◌+ℤ◌}
 use Rattle.std.specs.Prelude.{is_some, position}
-use Rattle.tl_definitions.specs.Lattice.{corner, corner_eq}
+use Rattle.tl_definitions.specs.Lattice.{corner, corner_eq, cell_width}
 use Rattle.tl_definitions.specs.Region.{Region, is_inner, inner_corners}
 use Rattle.tl_definitions.specs.Accepted.{IsPlaced, circuit_corners}
 use Rattle.tl_definitions.specs.declared.Corner.{Corner}
 use Rattle.tl_definitions.specs.declared.Tile.{Tile}
-use Rattle.tl_definitions.specs.Darts.{cell_width}
 use Rattle.tl_definitions.specs.Heights.{height, AreHeights}
 use Rattle.tl_definitions.proofs.InnerNumbers.{is_some-number}
 use Rattle.tl_closing.proofs.Heights.{has-heights}
@@ -21,7 +20,7 @@ numbered R S v o t placed same e f =
 left : (c : goal.After-cell_width-width) → LeftRead c.args.tiling.now.region c.args.tiling.now.tiles c.args.corner c.args.before.now c.cell_width-width.result
 left c =
     let R = c.args.tiling.now.region in
-    let inner = numbered R c.region-region.result.now c.args.corner c.index_of.result true c.requires.kept.placed c.region-region.ensures.region c.index_of.ensures (sym c.if-is_some.ensures) in
+    let inner = numbered R c.region-region.result.now c.args.corner c.index_of.result true c.requires.is_grid.placed c.region-region.ensures.region c.index_of.ensures (sym c.if-is_some.ensures) in
     let wide = c.cell_width-width.ensures ∙ ap cell_width (c.kind.ensures ∙ ap (λ (Q : Region). Q.kind) c.region-region.ensures.region) in
     left-read R c.args.tiling.now.tiles c.requires.accepted c.region-region.ensures.tiling c.args.corner inner c.requires.row c.requires.column c.args.before.now c.requires.before c.cell_width-width.result wide
 
@@ -33,7 +32,7 @@ bounds-before-before c = (left c).below
 
 pub rise_from_left-requires : goal.rise_from_left-requires
 rise_from_left-requires c =
-    numbered c.args.tiling.now.region c.region-region.result.now c.args.corner c.index_of.result true c.requires.kept.placed c.region-region.ensures.region c.index_of.ensures (sym c.if-is_some.ensures)
+    numbered c.args.tiling.now.region c.region-region.result.now c.args.corner c.index_of.result true c.requires.is_grid.placed c.region-region.ensures.region c.index_of.ensures (sym c.if-is_some.ensures)
 
 -- the two numbers that are added, and their sum
 record Adds (R : Region) (A : List Tile) (v : Corner) (a b : ℤ) (numbers : List ℤ) : Type 0 where
@@ -44,7 +43,7 @@ record Adds (R : Region) (A : List Tile) (v : Corner) (a b : ℤ) (numbers : Lis
 left-after : (c : goal.After-rise_from_left) → LeftRead c.args.tiling.now.region c.args.tiling.now.tiles c.args.corner c.args.before.now c.cell_width-width.result
 left-after c =
     let R = c.args.tiling.now.region in
-    let inner = numbered R c.region-region.result.now c.args.corner c.index_of.result true c.requires.kept.placed c.region-region.ensures.region c.index_of.ensures (sym c.if-is_some.ensures) in
+    let inner = numbered R c.region-region.result.now c.args.corner c.index_of.result true c.requires.is_grid.placed c.region-region.ensures.region c.index_of.ensures (sym c.if-is_some.ensures) in
     let wide = c.cell_width-width.ensures ∙ ap cell_width (c.kind.ensures ∙ ap (λ (Q : Region). Q.kind) c.region-region.ensures.region) in
     left-read R c.args.tiling.now.tiles c.requires.accepted c.region-region.ensures.tiling c.args.corner inner c.requires.row c.requires.column c.args.before.now c.requires.before c.cell_width-width.result wide
 
@@ -54,7 +53,7 @@ adds c numbers h =
     let R = c.args.tiling.now.region in
     let A = c.args.tiling.now.tiles in
     let read = (left-after c).read numbers h in
-    let range = fill-range R A numbers c.requires.accepted c.region-region.ensures.tiling h c.requires.kept.rows_within c.requires.kept.columns_within in
+    let range = fill-range R A numbers c.requires.accepted c.region-region.ensures.tiling h c.requires.is_grid.rows_within c.requires.is_grid.columns_within in
     record {
       first = subst InRange (sym read) (range (corner c.args.corner.r (c.args.corner.x - cell_width R.kind)) (omega (arith, c.requires.column)));
       sum = range c.args.corner c.requires.column;
@@ -77,7 +76,7 @@ reads c numbers h =
     let R = c.args.tiling.now.region in
     let A = c.args.tiling.now.tiles in
     record {
-      range = fill-range R A numbers c.requires.accepted c.region-region.ensures.tiling h c.requires.kept.rows_within c.requires.kept.columns_within c.args.corner c.requires.column;
+      range = fill-range R A numbers c.requires.accepted c.region-region.ensures.tiling h c.requires.is_grid.rows_within c.requires.is_grid.columns_within c.args.corner c.requires.column;
       is = c.prefix.ensures.prefix
           ∙ sym (fill-boundary R A numbers c.requires.accepted c.region-region.ensures.tiling h c.args.circuit.now c.in-Some.k c.args.corner c.requires.circuit
           (position-at (circuit_corners c.args.circuit.now) c.args.corner c.in-Some.k c.in-Some.ensures));
@@ -102,6 +101,6 @@ returns-in-Some c numbers h =
 pub returns-in-None : goal.returns-in-None
 returns-in-None c numbers h =
     let R = c.args.tiling.now.region in
-    let inner = numbered R c.region-region.result.now c.args.corner c.index_of.result false c.requires.kept.placed c.region-region.ensures.region c.index_of.ensures (sym c.if-is_some.ensures) in
+    let inner = numbered R c.region-region.result.now c.args.corner c.index_of.result false c.requires.is_grid.placed c.region-region.ensures.region c.index_of.ensures (sym c.if-is_some.ensures) in
     sym (fill-nothing R c.args.tiling.now.tiles numbers c.requires.accepted c.region-region.ensures.tiling h c.args.circuit.now c.args.corner c.requires.circuit c.requires.column inner
     (position-off _ c.args.corner c.in-None.ensures))

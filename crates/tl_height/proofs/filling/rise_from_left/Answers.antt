@@ -3,10 +3,9 @@ use mir.Val.{to_z, of_z}
 use Rattle.std.proofs.lemmas.Int.{ints}
 use Rattle.tl_definitions.specs.declared.Kind.{Kind}
 use Rattle.tl_definitions.specs.declared.Kind.TheVariants.{Square, Triangle}
-use Rattle.tl_definitions.specs.Lattice.{corner}
+use Rattle.tl_definitions.specs.Lattice.{corner, rise, cell_width}
 use Rattle.tl_definitions.specs.Region.{Region}
-use Rattle.tl_definitions.specs.Darts.{cell_width}
-use Rattle.tl_definitions.specs.Heights.{rise, height}
+use Rattle.tl_definitions.specs.Heights.{height}
 use Rattle.tl_closing.proofs.Filling.{leads_right}
 use Rattle.tl_height.proofs.FillLemmas.{same_parity, rise-told}
 use Rattle.tl_height.proofs.filling.rise_from_left.Goals as goal

@@ -1,9 +1,10 @@
 use Rattle.std.proofs.Common.{◌≡◌, ◌<◌, List, [], ◌∷◌, length, refl, sym, ◌∙◌, ap, subst, arith, pos, negsuc, ℤ, codes}
 use Rattle.std.specs.Prelude.{IfOk}
 use Rattle.tl_definitions.specs.Region.{Region, inner_corners}
-use Rattle.tl_definitions.specs.RegionText.{IsRegionText}
+use Rattle.tl_formats.specs.RegionText.{IsRegionText}
 use Rattle.tl_definitions.specs.Heights.{AreLawful}
-use Rattle.tl_height.specs.HeightFunction.{HeightFunction, put_at}
+use Rattle.tl_lists.specs.Lists.{put_at}
+use Rattle.tl_height.specs.HeightFunction.{HeightFunction}
 use Rattle.tl_height.proofs.Examples.{two_two, two_two-text, with_middle, level_lawful, upright_lawful}
 use Rattle.tl_height.proofs.tests.a_square_has_two_height_functions.Goals as goal
 use Rattle.tl_height.proofs.tests.a_square_has_two_height_functions.Goals.{In-Ok, After-of_numbers-heights}

@@ -4,10 +4,12 @@ use Rattle.tl_io.proofs.reading.read_all.Given as goal
 
 abbrev pub invariant-loop-count : goal.invariant-loop-count
 invariant-loop-count g l =
+    let before = g.S.Source.state l.fn.source in
+    let now = g.S.Source.state l.source in
     record {
-      given : g.S.Source.left l.fn.source ≡ prepend_known l.bytes.items (g.S.Source.left l.source);
+      given : before.left ≡ prepend_known l.bytes.items now.left;
       within : vec_len l.bytes ≤ l.limit;
-      later : g.S.Source.faults l.fn.source ≤ g.S.Source.faults l.source;
+      steady : now.faults ≡ before.faults;
     }
 
 abbrev pub decreases-loop-count : goal.decreases-loop-count

@@ -8,10 +8,10 @@ pub flags_of-requires-clause-within : goal.flags_of-requires-clause-within
 flags_of-requires-clause-within c =
     subst (All (λ a. (a.r < c.args.rows.count) × (a.c < c.args.rows.columns))) (sym c.as_slice.ensures.value) (cells_within (region_by c.args.kind c.args.rows) c.requires)
 
-pub with_flags-requires-clause-kept : goal.with_flags-requires-clause-kept
-with_flags-requires-clause-kept c = record {
+pub with_flags-requires-clause-is_grid : goal.with_flags-requires-clause-is_grid
+with_flags-requires-clause-is_grid c = record {
   placed = c.requires;
   nonempty = λ e. omega (arith, ap length e, not_zero _ c.is_empty.result c.is_empty.ensures c.if-is_empty.false);
-  rows_within = c.if-rows-gt-LIMIT.false;
-  columns_within = c.if-rows-gt-LIMIT-2.false;
+  rows_within = c.if-rows-gt-SIDE_LIMIT.false;
+  columns_within = c.if-rows-gt-SIDE_LIMIT-2.false;
 }

@@ -1,5 +1,5 @@
 use Rattle.std.proofs.Common.{◌≡◌, ◌++◌, drop}
-use Rattle.tl_definitions.specs.Marks.{marks, is_hash, is_bad}
+use Rattle.tl_formats.specs.Marks.{marks, is_hash, is_bad}
 use Rattle.tl_region.proofs.rows.read_row.Given as goal
 
 abbrev pub invariant-loop-c : goal.invariant-loop-c

@@ -2,8 +2,7 @@ use Rattle.std.proofs.Common.{◌≡◌, false, Option, None, sym, ◌∙◌, su
 use Rattle.std.specs.Prelude.{MatchOption, is_some}
 use Rattle.tl_definitions.specs.declared.Cell.{Cell}
 use Rattle.tl_definitions.specs.Region.{Region, corner_places}
-use Rattle.tl_definitions.specs.Accepted.{is_pinch}
-use Rattle.tl_definitions.specs.RegionText.{InOnePart, IsFirstParted}
+use Rattle.tl_definitions.specs.Accepted.{is_pinch, InOnePart, IsFirstParted}
 use Rattle.tl_grid.proofs.CornerScans.{none-found}
 use Rattle.tl_region.proofs.rules.check_rules.Goals as goal
 use Rattle.tl_region.proofs.rules.check_rules.Goals.{else-one_circuit-via-then-one_circuit+else-has_euler_one, else-one_circuit-via-else-one_circuit}

@@ -1,7 +1,6 @@
 use Rattle.std.proofs.Common.{◌≡◌, ◌-◌}
 use Rattle.std.specs.Prelude.{find}
-use Rattle.tl_definitions.specs.Region.{has}
-use Rattle.tl_definitions.specs.Marks.{row_part}
+use Rattle.tl_definitions.specs.Region.{has, row_part}
 use Rattle.tl_tiling.proofs.letters.first_cell_in_row.Given as goal
 
 abbrev pub invariant-loop-c : goal.invariant-loop-c

@@ -11,7 +11,7 @@ returns-in-Some-clause-refused c =
     let count = c.in-Ok-read_lines.ensures.count in (
       c.in-Some.cell,
       refl,
-      bad_letter-from R lines c.read_lines.new.letters.items c.in-Some.cell c.rows.ensures.kept.placed
+      bad_letter-from R lines c.read_lines.new.letters.items c.in-Some.cell c.rows.ensures.is_grid.placed
           (subst (λ (n : ℕ). AreReadBefore R lines n c.read_lines.new.letters.items) count c.in-Ok-read_lines.ensures.read)
           (subst (λ (n : ℕ). IsFirstCellFrom R n c.in-Some.cell) count c.in-Some.ensures),
     )
@@ -21,6 +21,6 @@ returns-clause-read c =
     let R = c.args.region.now in
     let lines = (section_at c.args.text.now).lines in
     let count = c.in-Ok-read_lines.ensures.count in
-    read_letters-from R lines c.read_lines.new.letters.items c.rows.ensures.kept.placed
+    read_letters-from R lines c.read_lines.new.letters.items c.rows.ensures.is_grid.placed
     (subst (λ (n : ℕ). AreReadBefore R lines n c.read_lines.new.letters.items) count c.in-Ok-read_lines.ensures.read)
     (subst (λ (n : ℕ). HasNoCellFrom R n) count c.in-None.ensures)

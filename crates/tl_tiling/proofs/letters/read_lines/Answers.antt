@@ -11,7 +11,7 @@ returns-in-Some-read_line-clause-bad c =
     let after = c.next_line.result.1.now in
     let next = subst (λ o. IsNextLine rest (option_copied o) after) c.in-Some.is c.next_line.ensures.next in
     up_to-bad c.args.region.now (section_at c.args.text.now) (section_at rest) (section_at after) c.loop-line.r c.loop-line.letters.items c.in-Some.line.now _ c.in-Some-read_line.cell
-    c.in-Some-read_line.ensures.kept.placed c.loop-line.invariant.read next c.in-Some-read_line.ensures.bad refl
+    c.in-Some-read_line.ensures.is_grid.placed c.loop-line.invariant.read next c.in-Some-read_line.ensures.bad refl
 
 pub loop-line-preserved : goal.loop-line-preserved
 loop-line-preserved c =
@@ -23,6 +23,6 @@ loop-line-preserved c =
     record {
       read =
           up_to-line c.args.region.now (section_at c.args.text.now) (section_at rest) (section_at after) c.loop-line.r c.loop-line.letters.items c.read_line.new.letters.items c.in-Some.line.now _
-          c.read_line.ensures.kept.placed c.loop-line.invariant.read next c.read_line.ensures.bad none c.read_line.ensures.size (c.read_line.ensures.read none);
+          c.read_line.ensures.is_grid.placed c.loop-line.invariant.read next c.read_line.ensures.bad none c.read_line.ensures.size (c.read_line.ensures.read none);
       within = omega (arith, c.loop-line.invariant.within, shorter);
     }

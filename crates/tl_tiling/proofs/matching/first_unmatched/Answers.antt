@@ -1,6 +1,6 @@
 use Rattle.std.proofs.Common.{sym, ◌∙◌}
 use Rattle.std.specs.Prelude.{not}
-use Rattle.tl_definitions.specs.Drawing.{is_matched}
+use Rattle.tl_formats.specs.Drawing.{is_matched}
 use Rattle.tl_tiling.specs.Letters.{partner_in}
 use Rattle.tl_tiling.proofs.MatchLemmas.{has-cell, find-drop}
 use Rattle.tl_tiling.proofs.matching.first_unmatched.Goals as goal

@@ -1,6 +1,6 @@
 use Rattle.std.proofs.Common.{◌≡◌, drop}
 use Rattle.std.specs.Prelude.{find, not}
-use Rattle.tl_definitions.specs.Drawing.{is_matched}
+use Rattle.tl_formats.specs.Drawing.{is_matched}
 use Rattle.tl_tiling.specs.Letters.{partner_in}
 use Rattle.tl_tiling.proofs.matching.first_unmatched.Given as goal
 

@@ -9,11 +9,11 @@ use Rattle.tl_grid.proofs.parts.Flood.spread.Goals.{in-Some+in_ok-reach, in_defa
 
 pub neighbours-requires-clause-row : goal.neighbours-requires-clause-row
 neighbours-requires-clause-row c =
-    omega (arith, (has-within c.args.grid.now c.args.cell c.kind.ensures.kept.placed c.requires.inside).0, c.kind.ensures.kept.rows_within)
+    omega (arith, (has-within c.args.grid.now c.args.cell c.kind.ensures.is_grid.placed c.requires.inside).0, c.kind.ensures.is_grid.rows_within)
 
 pub neighbours-requires-clause-column : goal.neighbours-requires-clause-column
 neighbours-requires-clause-column c =
-    omega (arith, (has-within c.args.grid.now c.args.cell c.kind.ensures.kept.placed c.requires.inside).1, c.kind.ensures.kept.columns_within)
+    omega (arith, (has-within c.args.grid.now c.args.cell c.kind.ensures.is_grid.placed c.requires.inside).1, c.kind.ensures.is_grid.columns_within)
 
 pub loop-near-init : goal.loop-near-init
 loop-near-init c = reaches_nothing c.args.grid.now c.args.self.now

@@ -3,7 +3,7 @@ use Rattle.std.specs.List.{list_all}
 use Rattle.std.proofs.lemmas.Int.{to_z-of_z}
 use mir.Val.{SFits}
 use Rattle.tl_definitions.specs.declared.Corner.{Corner}
-use Rattle.tl_definitions.specs.Region.{present}
+use Rattle.tl_lists.specs.Lists.{present}
 use Rattle.tl_definitions.specs.Heights.{height}
 use Rattle.tl_height.specs.HeightFunction.{falls_between}
 use Rattle.tl_height.proofs.FallLemmas.{falls-passed}

@@ -1,6 +1,6 @@
 use Rattle.std.proofs.Common.{◌≡◌, drop}
 use Rattle.std.specs.List.{list_all}
-use Rattle.tl_definitions.specs.Region.{present}
+use Rattle.tl_lists.specs.Lists.{present}
 use Rattle.tl_definitions.specs.Heights.{height}
 use Rattle.tl_height.specs.HeightFunction.{falls_between}
 use Rattle.tl_height.proofs.heights.Heights.all_fall.Given as goal

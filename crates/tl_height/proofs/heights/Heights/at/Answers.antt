@@ -1,4 +1,4 @@
-use Rattle.std.proofs.Common.{◌≡◌, ℕ, ◌+◌, ◌*◌, ◌<◌, true, length, sym, ◌∙◌, ap, subst, arith, pos, w32, rules}
+use Rattle.std.proofs.Common.{neg_ℤ, ◌≡◌, ℕ, ◌+◌, ◌*◌, ◌<◌, true, length, sym, ◌∙◌, ap, subst, arith, pos, w32, rules}
 use Rattle.std.proofs.lemmas.Int.{to_z-of_z}
 use Rattle.std.proofs.lemmas.List.{get_or_read}
 use mir.Val.{SFits}
@@ -15,14 +15,16 @@ use Rattle.tl_definitions.specs.Heights.{AreLawful}
 use Rattle.tl_closing.proofs.Bounds.{Within, heights-small}
 use Rattle.tl_closing.proofs.Numbers.{corner-within}
 use Rattle.tl_closing.proofs.Filling.{cells-few}
-use Rattle.tl_height.proofs.HeightPlaces.{place-within}
+use Rattle.tl_closing.proofs.PutNumbers.{place-within}
 use Rattle.tl_height.proofs.heights.Heights.at.Goals as goal
 use Rattle.tl_height.proofs.heights.Heights.at.Goals.{After-columns}
+use Rattle.tl_definitions.specs.declared.TheConstants.{SIDE_LIMIT}
+use Rattle.tl_definitions.specs.Limits.{most_cells, most_height}
 
 within : (c : After-columns) → c.args.corner.r * (c.columns.result + 2) + c.args.corner.x < length c.self.inside.numbers.items
 within c =
     subst (λ (n : ℕ). c.args.corner.r * (n + 2) + c.args.corner.x < length c.self.inside.numbers.items) (sym c.columns.ensures.columns)
-    (place-within c.self.inside.region.now c.self.inside.numbers.items c.args.corner c.columns.ensures.kept.placed c.self.invariant.lawful.heights
+    (place-within c.self.inside.region.now c.self.inside.numbers.items c.args.corner c.columns.ensures.is_grid.placed c.self.invariant.lawful.heights
     (subst (λ (f : HeightFunction). is_corner_of f.region c.args.corner ≡ true) (sym c.self.view_is) c.requires))
 
 pub index-requires : goal.index-requires
@@ -36,8 +38,8 @@ returns-clause-height c =
     ∙ ap (λ (n : ℕ). height (record c.self.inside.region.now { columns = n }) c.self.inside.numbers.items c.args.corner) c.columns.ensures.columns
     ∙ ap (λ (f : HeightFunction). height f.region f.numbers c.args.corner) c.self.view_is
 
-near : (R : Region) (numbers : List ℤ) (v : Corner) → Accepted R → AreLawful R numbers → R.rows ≤ 512 → R.columns ≤ 512 → is_corner_of R v ≡ true
-    → (z y : ℤ) → z ≡ height R numbers v → y ≡ z → (negsuc (2 ^ 21 - 1) ≤ℤ y) × (y ≤ℤ pos (2 ^ 21))
+near : (R : Region) (numbers : List ℤ) (v : Corner) → Accepted R → AreLawful R numbers → R.rows ≤ SIDE_LIMIT → R.columns ≤ SIDE_LIMIT → is_corner_of R v ≡ true
+    → (z y : ℤ) → z ≡ height R numbers v → y ≡ z → (neg_ℤ (pos most_height) ≤ℤ y) × (y ≤ℤ pos most_height)
 near R numbers v accepted lawful rows columns e z y f g = (omega (arith, ints, s.0, s.1, f, g, few, column, columns), omega (arith, ints, s.0, s.1, f, g, few, column, columns))
   where
     s : Within (4 * cell_count R + 3 * v.x) (height R numbers v)
@@ -46,13 +48,13 @@ near R numbers v accepted lawful rows columns e z y f g = (omega (arith, ints, s
     column : v.x < R.columns + 2
     column = (corner-within R v accepted.placed e).1
 
-    few : cell_count R ≤ 512 * 512
+    few : cell_count R ≤ most_cells
     few = let least : cell_count R ≤ R.rows * R.columns = cells-few R accepted.placed in omega (arith, least, mul-le-mul rows columns)
 
 pub returns-clause-low : goal.returns-clause-low
 returns-clause-low c =
     let fits : SFits w32 c.index.result.now = search rules in
-    (near c.self.inside.region.now c.self.inside.numbers.items c.args.corner c.self.invariant.accepted c.self.invariant.lawful c.self.invariant.kept.rows_within c.self.invariant.kept.columns_within
+    (near c.self.inside.region.now c.self.inside.numbers.items c.args.corner c.self.invariant.accepted c.self.invariant.lawful c.self.invariant.is_grid.rows_within c.self.invariant.is_grid.columns_within
     (subst (λ (f : HeightFunction). is_corner_of f.region c.args.corner ≡ true) (sym c.self.view_is) c.requires)
     c.index.result.now _
     (get_or_read c.self.inside.numbers.items _ _ (within (goal.at.returns-clause-low c).After-columns) c.index.ensures (pos 0)
@@ -62,7 +64,7 @@ returns-clause-low c =
 pub returns-clause-high : goal.returns-clause-high
 returns-clause-high c =
     let fits : SFits w32 c.index.result.now = search rules in
-    (near c.self.inside.region.now c.self.inside.numbers.items c.args.corner c.self.invariant.accepted c.self.invariant.lawful c.self.invariant.kept.rows_within c.self.invariant.kept.columns_within
+    (near c.self.inside.region.now c.self.inside.numbers.items c.args.corner c.self.invariant.accepted c.self.invariant.lawful c.self.invariant.is_grid.rows_within c.self.invariant.is_grid.columns_within
     (subst (λ (f : HeightFunction). is_corner_of f.region c.args.corner ≡ true) (sym c.self.view_is) c.requires)
     c.index.result.now _
     (get_or_read c.self.inside.numbers.items _ _ (within (goal.at.returns-clause-high c).After-columns) c.index.ensures (pos 0)

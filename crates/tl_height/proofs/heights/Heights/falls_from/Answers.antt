@@ -13,7 +13,7 @@ shape c = ap (λ (f : HeightFunction). f.region) c.self.view_is
 
 inside : (c : After-kind) → IsInside c.self.inside.region.now c.args.corner
 inside c =
-    inner-inside c.self.inside.region.now c.args.corner c.self.invariant.kept
+    inner-inside c.self.inside.region.now c.args.corner c.self.invariant.is_grid
     (subst (λ (R : Region). is_inner R c.args.corner ≡ true) (sym (shape c)) c.requires)
 
 pub steps_out-steps-requires-clause-row : goal.steps_out-steps-requires-clause-row

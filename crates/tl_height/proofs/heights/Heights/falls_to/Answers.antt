@@ -1,30 +1,30 @@
-use Rattle.std.proofs.Common.{◌≡◌, true, sym, ◌∙◌, ap, subst, map, Some}
+use Rattle.std.proofs.Common.{◌≡◌, true, sym, ◌∙◌, ap, subst}
 use Rattle.tl_definitions.specs.declared.Kind.{Kind}
+use Rattle.tl_definitions.specs.Lattice.{steps_in}
 use Rattle.tl_definitions.specs.Region.{Region, is_corner_of, is_inner}
 use Rattle.tl_lattice.specs.Places.{padded}
-use Rattle.tl_closing.specs.Standing.{steps_in}
 use Rattle.tl_height.specs.HeightFunction.{HeightFunction}
 use Rattle.tl_height.proofs.InnerSteps.{IsInside, inner-inside, ins-of_region}
 use Rattle.tl_height.proofs.heights.Heights.falls_to.Goals as goal
-use Rattle.tl_height.proofs.heights.Heights.falls_to.Goals.{After-kind, After-steps_in-corners}
+use Rattle.tl_height.proofs.heights.Heights.falls_to.Goals.{After-kind, After-steps_in-steps}
 
 shape : (c : After-kind) → c.self.inside.region.now ≡ c.args.self.now.region
 shape c = ap (λ (f : HeightFunction). f.region) c.self.view_is
 
 inside : (c : After-kind) → IsInside c.self.inside.region.now c.args.corner
 inside c =
-    inner-inside c.self.inside.region.now c.args.corner c.self.invariant.kept
+    inner-inside c.self.inside.region.now c.args.corner c.self.invariant.is_grid
     (subst (λ (R : Region). is_inner R c.args.corner ≡ true) (sym (shape c)) c.requires)
 
-pub steps_in-corners-requires-clause-row : goal.steps_in-corners-requires-clause-row
-steps_in-corners-requires-clause-row c = (inside (goal.at.steps_in-corners-requires-clause-row c).After-kind).row
+pub steps_in-steps-requires-clause-row : goal.steps_in-steps-requires-clause-row
+steps_in-steps-requires-clause-row c = (inside (goal.at.steps_in-steps-requires-clause-row c).After-kind).row
 
-pub steps_in-corners-requires-clause-column : goal.steps_in-corners-requires-clause-column
-steps_in-corners-requires-clause-column c = (inside (goal.at.steps_in-corners-requires-clause-column c).After-kind).column
+pub steps_in-steps-requires-clause-column : goal.steps_in-steps-requires-clause-column
+steps_in-steps-requires-clause-column c = (inside (goal.at.steps_in-steps-requires-clause-column c).After-kind).column
 
 -- the table is that of the definition
-table : (c : After-steps_in-corners) → c.steps_in-corners.result ≡ padded 3 (map (λ u. Some u) (steps_in c.args.self.now.region.kind c.args.corner))
-table c = c.steps_in-corners.ensures ∙ ap (λ (k : Kind). padded 3 (map (λ u. Some u) (steps_in k c.args.corner))) (c.kind.ensures ∙ ap (λ (R : Region). R.kind) (ap (λ (f : HeightFunction). f.region) c.self.view_is))
+table : (c : After-steps_in-steps) → c.steps_in-steps.result.corners ≡ padded 3 (steps_in c.args.self.now.region.kind c.args.corner)
+table c = c.steps_in-steps.ensures.corners ∙ ap (λ (k : Kind). padded 3 (steps_in k c.args.corner)) (c.kind.ensures ∙ ap (λ (R : Region). R.kind) (ap (λ (f : HeightFunction). f.region) c.self.view_is))
 
 pub at-requires : goal.at-requires
 at-requires c =
@@ -33,4 +33,4 @@ at-requires c =
 
 pub all_fall-requires : goal.all_fall-requires
 all_fall-requires c =
-    ins-of_region c.args.self.now.region c.args.corner c.steps_in-corners.result c.requires (table (goal.at.all_fall-requires c).After-steps_in-corners)
+    ins-of_region c.args.self.now.region c.args.corner c.steps_in-steps.result.corners c.requires (table (goal.at.all_fall-requires c).After-steps_in-steps)

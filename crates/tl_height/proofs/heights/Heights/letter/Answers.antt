@@ -5,7 +5,7 @@ use Rattle.tl_definitions.specs.declared.Kind.{Kind}
 use Rattle.tl_definitions.specs.declared.Tile.{Tile}
 use Rattle.tl_definitions.specs.Region.{has}
 use Rattle.tl_definitions.specs.Tiling.{is_tiling, partner}
-use Rattle.tl_definitions.specs.Drawing.{letter}
+use Rattle.tl_formats.specs.Drawing.{letter}
 use Rattle.tl_definitions.specs.Heights.{AreHeights}
 use Rattle.tl_definitions.proofs.Regions.{has-within}
 use Rattle.tl_height.specs.declared.sides.Ends.{Ends}
@@ -22,17 +22,17 @@ returns-then-not-has c A tiling h =
     (ap (λ (f : HeightFunction). has f.region c.args.cell) (sym c.self.view_is) ∙ sym c.has.ensures ∙ c.if-not-has.true)
 
 within : (c : After-kind) → (c.args.cell.r < c.self.inside.region.now.rows) × (c.args.cell.c < c.self.inside.region.now.columns)
-within c = has-within c.self.inside.region.now c.args.cell c.self.invariant.kept.placed (sym c.has.ensures ∙ c.if-not-has.false)
+within c = has-within c.self.inside.region.now c.args.cell c.self.invariant.is_grid.placed (sym c.has.ensures ∙ c.if-not-has.false)
 
 pub side_ends-ends-requires-clause-row : goal.side_ends-ends-requires-clause-row
 side_ends-ends-requires-clause-row c =
     let w = within (goal.at.side_ends-ends-requires-clause-row c).After-kind in
-    omega (arith, w.0, c.self.invariant.kept.rows_within)
+    omega (arith, w.0, c.self.invariant.is_grid.rows_within)
 
 pub side_ends-ends-requires-clause-column : goal.side_ends-ends-requires-clause-column
 side_ends-ends-requires-clause-column c =
     let w = within (goal.at.side_ends-ends-requires-clause-column c).After-kind in
-    omega (arith, w.1, c.self.invariant.kept.columns_within)
+    omega (arith, w.1, c.self.invariant.is_grid.columns_within)
 
 here : (c : After-side_ends-ends) → has c.args.self.now.region c.args.cell ≡ true
 here c = ap (λ (f : HeightFunction). has f.region c.args.cell) (sym c.self.view_is) ∙ sym c.has.ensures ∙ c.if-not-has.false

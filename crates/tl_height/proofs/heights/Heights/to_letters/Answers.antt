@@ -5,10 +5,11 @@ use Rattle.std.proofs.lemmas.List.{length-append}
 use Rattle.std.proofs.lemmas.List.FromFn.{length-map-range_with_len}
 use Rattle.tl_definitions.specs.declared.Tile.{Tile}
 use Rattle.tl_definitions.specs.Lattice.{cell}
-use Rattle.tl_definitions.specs.Region.{Region, upto}
+use Rattle.tl_definitions.specs.Region.{Region}
+use Rattle.tl_lists.specs.Lists.{upto}
 use Rattle.tl_definitions.specs.Accepted.{Accepted}
 use Rattle.tl_definitions.specs.Tiling.{is_tiling, partner}
-use Rattle.tl_definitions.specs.Drawing.{letter}
+use Rattle.tl_formats.specs.Drawing.{letter}
 use Rattle.tl_definitions.specs.Heights.{AreHeights, AreLawful}
 use Rattle.tl_closing.proofs.Heights.{has-tiling}
 use Rattle.tl_height.specs.HeightFunction.{HeightFunction}

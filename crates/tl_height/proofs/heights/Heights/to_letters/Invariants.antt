@@ -1,7 +1,7 @@
 use Rattle.std.proofs.Common.{◌≡◌, ◌*◌, List, take}
 use Rattle.std.specs.Prelude.{flat_map, IsTrue}
 use Rattle.tl_definitions.specs.declared.Tile.{Tile}
-use Rattle.tl_definitions.specs.Region.{upto}
+use Rattle.tl_lists.specs.Lists.{upto}
 use Rattle.tl_definitions.specs.Tiling.{is_tiling}
 use Rattle.tl_definitions.specs.Heights.{AreHeights}
 use Rattle.tl_height.specs.Letters.{row_text}

@@ -2,7 +2,7 @@ use Rattle.std.proofs.Common.{◌≡◌, ◌≢◌, ℕ, ◌<◌, length, map, �
 use Rattle.std.specs.List.{range_with_len}
 use Rattle.tl_definitions.specs.Lattice.{cell}
 use Rattle.tl_definitions.specs.Tiling.{partner}
-use Rattle.tl_definitions.specs.Drawing.{letter}
+use Rattle.tl_formats.specs.Drawing.{letter}
 use Rattle.tl_height.specs.HeightFunction.{HeightFunction}
 use Rattle.tl_height.proofs.RowLemmas.{row_ends}
 use Rattle.tl_height.proofs.heights.Heights.write_row.Goals as goal

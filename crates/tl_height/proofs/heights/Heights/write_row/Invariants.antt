@@ -3,7 +3,7 @@ use Rattle.std.specs.Prelude.{IsTrue}
 use Rattle.tl_definitions.specs.declared.Tile.{Tile}
 use Rattle.tl_definitions.specs.Lattice.{cell}
 use Rattle.tl_definitions.specs.Tiling.{is_tiling, partner}
-use Rattle.tl_definitions.specs.Drawing.{letter}
+use Rattle.tl_formats.specs.Drawing.{letter}
 use Rattle.tl_definitions.specs.Heights.{AreHeights}
 use Rattle.tl_height.proofs.heights.Heights.write_row.Given as goal
 

@@ -1,4 +1,0 @@
-mod CommandLemmas
-mod CheckLemmas
-mod HearLemmas
-mod RunLemmas

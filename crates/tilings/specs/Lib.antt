@@ -1,9 +1,0 @@
-pub mod Answers
-pub mod Commands
-pub mod Refusals
-pub mod Check
-pub mod Replies
-pub mod Runs
-pub mod Hearings
-pub mod Statuses
-pub mod Printed

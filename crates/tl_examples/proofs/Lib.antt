@@ -1,0 +1,13 @@
+mod CircuitExamples
+mod DiamondExamples
+mod EdgeExamples
+mod HeightExamples
+mod SampleExamples
+mod SweepExamples
+mod TextExamples
+mod RefusalExamples
+mod BoundaryExamples
+mod Laws
+mod SmallSquares
+mod LatticeExamples
+mod ClosingExamples

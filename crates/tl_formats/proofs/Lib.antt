@@ -1,0 +1,4 @@
+pub mod Lines
+pub mod RegionTexts
+pub mod Drawings
+pub mod Cases

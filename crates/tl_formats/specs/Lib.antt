@@ -1,0 +1,6 @@
+pub mod Input
+pub mod RegionText
+pub mod Marks
+pub mod Drawing
+pub mod Texts
+pub mod ObstructionText

@@ -1,0 +1,10 @@
+pub mod Tests
+pub mod Members
+pub mod Searches
+pub mod Positions
+pub mod Counts
+pub mod Orders
+pub mod Distinct
+pub mod Sums
+pub mod Powers
+pub mod Puts

@@ -1,0 +1,8 @@
+mod ReaderLemmas
+mod ReplyLemmas
+mod WritingLemmas
+mod RunLemmas
+mod WordLemmas
+mod CheckLemmas
+mod StopLemmas
+mod RunExamples

@@ -1,0 +1,34 @@
+-- The statuses of what each command is answered with: a line for each.
+use Rattle.std.proofs.Common.{◌≡◌, ℕ, false, List, refl}
+use Rattle.tl_text.specs.declared.Command.{Command}
+use Rattle.tl_text.specs.declared.Command.TheVariants.{Check, Decide, Refute, Flips, Distance, Sample, Gen}
+use Rattle.tl_formats.specs.Drawing.{DrawingRefusal, bad_letter, unmatched}
+use Rattle.tl_run.specs.Answers.{Answer, Is}
+use Rattle.tl_run.specs.Refusals.{usage, check_refused}
+use Rattle.tl_run.specs.Readers.{AtEnd}
+use Rattle.tl_run.specs.Check.{yes, DrawingReply, CheckReply}
+use Rattle.tl_run.specs.Replies.{Meaning, meaning_of, Answers}
+use Rattle.tl_run.proofs.ReaderLemmas.{IsHeard, Is-heard, OfInput-heard, OfRegion-heard, OfDrawing-heard, AtEnd-heard}
+
+-- ---- check
+
+check_refused-heard : (f : DrawingRefusal) → IsHeard (check_refused f)
+check_refused-heard (bad_letter a) = refl
+check_refused-heard (unmatched a) = refl
+
+CheckReply-heard : (input : List ℕ) (a : Answer) → CheckReply input a → IsHeard a
+CheckReply-heard input a =
+    OfRegion-heard input DrawingReply a
+    (λ R rest. OfDrawing-heard check_refused R rest (λ A end. AtEnd end (Is yes)) a check_refused-heard (λ A end. AtEnd-heard end (Is yes) a (Is-heard yes a refl)))
+
+-- ---- all commands
+
+-- no command is answered with the status of a failed read
+pub Answers-heard : (c : Command) (input : List ℕ) (a : Answer) → Answers (meaning_of c) input a → IsHeard a
+Answers-heard Check input a = OfInput-heard input (CheckReply input) a (CheckReply-heard input a)
+Answers-heard Decide input a = Is-heard usage a refl
+Answers-heard Refute input a = Is-heard usage a refl
+Answers-heard Flips input a = Is-heard usage a refl
+Answers-heard Distance input a = Is-heard usage a refl
+Answers-heard (Sample job) input a = Is-heard usage a refl
+Answers-heard (Gen gen) input a = Is-heard usage a refl

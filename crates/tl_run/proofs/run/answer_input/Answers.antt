@@ -1,0 +1,21 @@
+use Rattle.std.proofs.Common.{sym, subst}
+use Rattle.tl_text.specs.declared.Command.{Command}
+use Rattle.tl_text.specs.declared.Command.TheVariants.{Check}
+use Rattle.tl_run.specs.Check.{CheckReply}
+use Rattle.tl_run.specs.Replies.{Answers, meaning_of, takes_memory_first}
+use Rattle.tl_run.specs.Replying.{Makes}
+use Rattle.tl_run.specs.Statuses.{code_of}
+use Rattle.tl_run.specs.Writing.{Writing}
+use Rattle.tl_run.proofs.ReaderLemmas.{OfInput-short}
+use Rattle.tl_run.proofs.StopLemmas.{Makes-allowed}
+use Rattle.tl_run.proofs.WritingLemmas.{Writing-weaker}
+use Rattle.tl_run.proofs.run.answer_input.Goals as goal
+
+pub returns-in-Check : goal.returns-in-Check
+returns-in-Check g c =
+    let input = c.args.input.now in
+    subst
+    (λ (k : Command). Writing (Answers (meaning_of k) input) (takes_memory_first k) (g.K.Sink.state c.args.sink.now) (g.K.Sink.state c.write_made.new.sink) (code_of c.write_made.result))
+    (sym c.in-Check.is)
+    (Writing-weaker (Makes c.check.result) (Answers (meaning_of Check) input) (takes_memory_first Check) _ _ _
+    (λ a p. OfInput-short input (CheckReply input) a c.requires (Makes-allowed c.check.result (CheckReply input) c.check.ensures a p)) c.write_made.ensures)

@@ -1,0 +1,10 @@
+pub mod Answers
+pub mod Refusals
+pub mod Readers
+pub mod Check
+pub mod Replies
+pub mod Reading
+pub mod Writing
+pub mod Runs
+pub mod Statuses
+pub mod Replying

@@ -1,0 +1,37 @@
+-- Readers of an input: each hands on what it read and the bytes that follow, or its refusal is the answer. So the order
+-- of refusals is the order in which readers stand inside one another.
+use Rattle.std.specs.Prelude.{◌≡◌, ◌⊎◌, ℕ, nat_lt, List, length, MatchBool, MatchOption}
+use Rattle.tl_definitions.specs.declared.Tile.{Tile}
+use Rattle.tl_definitions.specs.Region.{Region}
+use Rattle.tl_formats.specs.Input.{first_section, further_section, rest_is_empty}
+use Rattle.tl_formats.specs.declared.TheConstants.{INPUT_LIMIT}
+use Rattle.tl_formats.specs.RegionText.{RegionRefusal, IsRegionText, IsRefusedText}
+use Rattle.tl_formats.specs.Drawing.{DrawingRefusal, drawing_refusal, Draws}
+use Rattle.tl_run.specs.Answers.{Answer, Allows, Is}
+use Rattle.tl_run.specs.Refusals.{input_too_long, extra_text, region_refused}
+
+-- an input, where it isn't too long
+abbrev pub OfInput : List ℕ → Allows → Allows
+OfInput input P a = MatchBool (nat_lt INPUT_LIMIT (length input)) (Is input_too_long a) (P a)
+
+-- the lines of the first section are refused, for their first cause
+abbrev pub RefusesRegion : List ℕ → Allows
+RefusesRegion bytes a = (f : RegionRefusal) × IsRefusedText (first_section bytes).lines f × Is (region_refused f) a
+
+-- the region of the first section
+abbrev pub OfRegion : List ℕ → (Region → List ℕ → Allows) → Allows
+OfRegion bytes P a =
+    let s = first_section bytes in
+    RefusesRegion bytes a ⊎ ((R : Region) × IsRegionText s.lines R × P R s.rest a)
+
+-- The tiling that a further section draws. What a refused drawing is answered with is the command's affair.
+abbrev pub OfDrawing : (DrawingRefusal → Answer) → Region → List ℕ → (List Tile → List ℕ → Allows) → Allows
+OfDrawing refused R bytes P a =
+    let s = further_section bytes in
+    MatchOption (drawing_refusal R s.lines)
+    ((A : List Tile) × Draws R s.lines A × P A s.rest a)
+    (λ f. Is (refused f) a)
+
+-- the end of the input: only line ends stand there
+abbrev pub AtEnd : List ℕ → Allows → Allows
+AtEnd bytes P a = MatchBool (rest_is_empty bytes) (P a) (Is extra_text a)

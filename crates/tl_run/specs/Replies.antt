@@ -1,0 +1,57 @@
+-- What the program answers to words and an input: a line for each command.
+use Rattle.std.specs.Prelude.{ℕ, Bool, true, false, not, ◌&&◌, ◌||◌, ◌==◌, List, Some, None}
+use Rattle.tl_text.specs.declared.Command.{Command}
+use Rattle.tl_text.specs.declared.Command.TheVariants.{Check, Sample, Gen}
+use Rattle.tl_text.specs.declared.SampleJob.{SampleJob}
+use Rattle.tl_text.specs.Words.{command}
+use Rattle.tl_run.specs.Answers.{Allows, Is}
+use Rattle.tl_run.specs.Refusals.{usage}
+use Rattle.tl_run.specs.Readers.{OfInput}
+use Rattle.tl_run.specs.Check.{CheckReply}
+
+-- How a command is answered: not at all, where it isn't there yet; without an input; or by what its input says.
+pub data Meaning : Type 1 where
+  Absent : Meaning
+  WithoutInput : Allows → Meaning
+  ByInput : (List ℕ → Allows) → Meaning
+
+abbrev pub meaning_of : Command → Meaning
+meaning_of Check = ByInput CheckReply
+meaning_of _ = Absent
+
+-- what the words ask for; words that are no command ask for what isn't there
+abbrev pub asked : List (List ℕ) → Meaning
+asked words = elim (command words) [ None ↦ Absent | Some c ↦ meaning_of c ]
+
+abbrev pub reads_input : Meaning → Bool
+reads_input (ByInput P) = true
+reads_input _ = false
+
+abbrev pub IsAbsent : Meaning → Type 0
+IsAbsent Absent = Unit {0}
+IsAbsent _ = ⊥
+
+-- the answers to an input
+abbrev pub Answers : Meaning → List ℕ → Allows
+Answers Absent input = Is usage
+Answers (WithoutInput P) input = P
+Answers (ByInput P) input = OfInput input (P input)
+
+-- The answer is one to the words and the input.
+abbrev pub Reply : List (List ℕ) → List ℕ → Allows
+Reply words input = Answers (asked words) input
+
+-- ---- before the first byte
+
+abbrev pub draws_alone : SampleJob → Bool
+draws_alone job = job.workers == 1 && job.bands == 1
+
+-- Whether all memory is taken before the first byte of the reply is written: always but where samples are drawn by
+-- several workers or in several bands.
+abbrev pub takes_memory_first : Command → Bool
+takes_memory_first (Sample job) = draws_alone job
+takes_memory_first (Gen gen) = not gen.summary || draws_alone gen.job
+takes_memory_first _ = true
+
+abbrev pub is_silent : List (List ℕ) → Bool
+is_silent words = elim (command words) [ None ↦ true | Some c ↦ takes_memory_first c ]

@@ -1,0 +1,44 @@
+//! What the commands read of an input, one after the other.
+
+ghost use Rattle.std.specs.Prelude.{◌≡◌, ◌≤◌, true, false, length, IfOk, IfErr, OnOk, OnErr};
+ghost use Rattle.tl_formats.specs.Input.{first_section, further_section, rest_is_empty};
+ghost use Rattle.tl_formats.specs.RegionText.{IsRegionText};
+ghost use Rattle.tl_formats.specs.Drawing.{Draws, drawing_refusal};
+ghost use Rattle.tl_tiling.specs.Refusals.{refusal_by};
+ghost use Rattle.tl_run.specs.Answers.{Is};
+ghost use Rattle.tl_run.specs.Refusals as answers;
+ghost use Rattle.tl_run.specs.Readers.{RefusesRegion};
+ghost use Rattle.tl_run.specs.Replying.{IfRefused};
+
+use crate::refusals::{extra_text, region_refused};
+use crate::reply::Stop;
+use std::alloc::Global;
+use tl_formats::INPUT_LIMIT;
+use tl_region::{Region, read_region, rest_is_empty};
+
+/// The region of the first section, and the bytes that follow it.
+pub fn region_of(alloc: Global, input: &[u8]) -> Result<(Region, &[u8]), Stop>
+    requires { length input.now ≤ INPUT_LIMIT }
+    ensures region { IfOk result (λ p. IsRegionText (first_section input.now).lines p.0) }
+    ensures rest { IfOk result (λ p. p.1.now ≡ (first_section input.now).rest) }
+    ensures within { IfOk result (λ p. length p.1.now ≤ INPUT_LIMIT) }
+    ensures refused { IfErr result (λ stop. IfRefused stop (RefusesRegion input.now)) }
+{
+    match read_region(alloc, input) {
+        Ok((region, taken)) => Ok((region, input.split_at(taken).1)),
+        Err(fault) => Err(region_refused(alloc, fault)),
+    }
+}
+
+/// Only line ends stand there.
+pub fn at_end(rest: &[u8]) -> Result<(), Stop>
+    ensures empty { OnOk result (rest_is_empty rest.now ≡ true) }
+    ensures refused { IfErr result (λ stop. IfRefused stop (Is answers.extra_text)) }
+    ensures extra { OnErr result (rest_is_empty rest.now ≡ false) }
+{
+    if rest_is_empty(rest) {
+        Ok(())
+    } else {
+        Err(Stop::Refused(extra_text()))
+    }
+}

@@ -1,0 +1,68 @@
+//! One run of the program.
+
+ghost use Rattle.std.specs.Prelude.{◌≡◌, ◌≤◌, length, map, false, IsTrue};
+ghost use Rattle.tl_run.specs.Replies.{Answers, asked, meaning_of, reads_input, takes_memory_first};
+ghost use Rattle.tl_run.specs.Runs.{IsRun, Runs};
+ghost use Rattle.tl_run.specs.Statuses.{code_of};
+ghost use Rattle.tl_run.specs.Writing.{Writing};
+
+use crate::check::check;
+use crate::refusals::{input_too_long, read_fault, usage};
+use crate::status::Status;
+use crate::words::read_words;
+use crate::writers::{write_made, write_reply};
+use std::alloc::Global;
+use std::thread::Threads;
+use tl_formats::INPUT_LIMIT;
+use tl_io::{Gate, InFault, Sink, Source, read_all};
+use tl_text::Command;
+
+// Answers an input: an arm for each command.
+fn answer_input<K: Sink>(alloc: Global, command: Command, input: &[u8], sink: &mut K) -> Status
+    requires { length input.now ≤ INPUT_LIMIT }
+    ensures { Writing (Answers (meaning_of command) input.now) (takes_memory_first command)
+        (K.state sink.old) (K.state sink.new) (code_of result) }
+{
+    match command {
+        Command::Check => write_made(sink, &check(alloc, input)),
+        _ => write_reply(sink, &usage()),
+    }
+}
+
+// Reads the input, and answers it.
+fn hear<S: Source, K: Sink>(alloc: Global, command: Command, source: &mut S, sink: &mut K) -> Status
+    requires { IsTrue (reads_input (meaning_of command)) }
+    ensures { Runs (meaning_of command) (takes_memory_first command) (S.state source.old)
+        (S.state source.new) (K.state sink.old) (K.state sink.new) (code_of result) }
+{
+    match read_all(alloc, source, INPUT_LIMIT) {
+        Ok(input) => answer_input(alloc, command, input.as_slice(), sink),
+        Err(InFault::ReadFault) => write_reply(sink, &read_fault()),
+        Err(InFault::InputTooLong) => write_reply(sink, &input_too_long()),
+        Err(InFault::OutOfMemory) => Status::OutOfMemory,
+    }
+}
+
+/// Runs the program on these words, which are those after its name: reads the source, where the words are a
+/// command that does, and writes the reply to the sink. It returns whatever comes.
+///
+/// The statuses 0 to 3 and 7 to 9 are those of a whole reply. 4 is a failed read, 5 a failed write, where the
+/// reply is cut, and 6 is want of memory, where nothing is written, or the beginning of samples that several
+/// workers or bands draw.
+pub fn run_quiet<R: Threads, S: Source, K: Sink + Send, G: Gate + Sync>(
+    _rt: &R,
+    alloc: Global,
+    words: &[&str],
+    source: &mut S,
+    sink: &mut K,
+    _gate: &G,
+) -> Status
+    ensures run { IsRun (map (λ w. w.now) words.now) (S.state source.old) (S.state source.new)
+        (K.state sink.old) (K.state sink.new) (code_of result) }
+    ensures untouched { reads_input (asked (map (λ w. w.now) words.now)) ≡ false → source.new ≡ source.old }
+{
+    match read_words(words) {
+        Some(command) => hear(alloc, command, source, sink),
+        None => write_reply(sink, &usage()),
+    }
+}
