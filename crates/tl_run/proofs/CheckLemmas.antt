@@ -1,17 +1,17 @@
 -- The parts of the reply of `check`.
-use Rattle.std.proofs.Common.{◌≡◌, ℕ, Bool, true, false, List, drop, Option, Some, None, sym, ◌∙◌, ap, subst}
+use Rattle.std.proofs.Common.{◌≡◌, ℕ, List, drop, Option, Some, None, ◌∙◌, ap}
 use Rattle.std.specs.Prelude.{IfSome, IsSomeAnd}
 use Rattle.tl_definitions.specs.declared.Tile.{Tile}
 use Rattle.tl_definitions.specs.Region.{Region}
-use Rattle.tl_formats.specs.Input.{first_section, further_section, rest_is_empty, taken}
+use Rattle.tl_formats.specs.Input.{first_section, further_section, taken}
 use Rattle.tl_formats.specs.RegionText.{IsRegionText}
 use Rattle.tl_formats.specs.Drawing.{DrawingRefusal, Draws, drawing_refusal}
 use Rattle.tl_formats.proofs.Lines.{drop-further}
-use Rattle.tl_run.specs.Answers.{Answer, Allows, Is}
-use Rattle.tl_run.specs.Refusals.{extra_text, check_refused}
+use Rattle.tl_run.specs.Answers.{Answer, Is}
+use Rattle.tl_run.specs.Refusals.{check_refused}
 use Rattle.tl_run.specs.Readers.{AtEnd}
 use Rattle.tl_run.specs.Check.{yes, DrawingReply, CheckReply}
-use Rattle.tl_run.proofs.ReaderLemmas.{OfRegion-read, OfDrawing-read, OfDrawing-told, AtEnd-empty, AtEnd-extra}
+use Rattle.tl_run.proofs.ReaderLemmas.{OfRegion-read, OfDrawing-read, OfDrawing-told}
 
 pub check-refused : (input rest : List ℕ) (R : Region) (told : Option DrawingRefusal) (a : Answer) → IsRegionText (first_section input).lines R
     → rest ≡ (first_section input).rest → IfSome told (λ f. drawing_refusal R (further_section rest).lines ≡ Some f)

@@ -1,5 +1,5 @@
 -- The statuses of what each command is answered with: a line for each.
-use Rattle.std.proofs.Common.{◌≡◌, ℕ, false, List, refl}
+use Rattle.std.proofs.Common.{ℕ, List, refl}
 use Rattle.tl_text.specs.declared.Command.{Command}
 use Rattle.tl_text.specs.declared.Command.TheVariants.{Check, Decide, Refute, Flips, Distance, Sample, Gen}
 use Rattle.tl_formats.specs.Drawing.{DrawingRefusal, bad_letter, unmatched}
@@ -7,7 +7,7 @@ use Rattle.tl_run.specs.Answers.{Answer, Is}
 use Rattle.tl_run.specs.Refusals.{usage, check_refused}
 use Rattle.tl_run.specs.Readers.{AtEnd}
 use Rattle.tl_run.specs.Check.{yes, DrawingReply, CheckReply}
-use Rattle.tl_run.specs.Replies.{Meaning, meaning_of, Answers}
+use Rattle.tl_run.specs.Replies.{meaning_of, Answers}
 use Rattle.tl_run.proofs.ReaderLemmas.{IsHeard, Is-heard, OfInput-heard, OfRegion-heard, OfDrawing-heard, AtEnd-heard}
 
 -- ---- check

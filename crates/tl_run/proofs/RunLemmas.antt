@@ -1,6 +1,6 @@
 -- From what a run reads and writes to the run.
 use Rattle.std.proofs.Common.{◌≡◌, inl, inr, ℕ, ◌+◌, ◌≤◌, ◌<◌, Bool, true, false, List, [], ◌++◌, length, Option, Some, None, refl, sym, ◌∙◌, ap, subst, arith, append-nil, length-append}
-use Rattle.std.specs.Prelude.{◌==◌, MatchBool, IfSome, IsTrue, unwrap_or, not, ◌&&◌}
+use Rattle.std.specs.Prelude.{◌==◌, MatchBool, IfSome, unwrap_or, not, ◌&&◌}
 use Rattle.std.specs.Io.KnownBytes.{prepend_known, IsAtEnd}
 use Rattle.tl_io.specs.Counts.{Rose}
 use Rattle.tl_io.specs.States.{SourceState, SinkState}
@@ -9,8 +9,8 @@ use Rattle.tl_formats.specs.declared.TheConstants.{INPUT_LIMIT}
 use Rattle.tl_run.specs.Answers.{Answer, answer, Allows, Is, is_whole}
 use Rattle.tl_run.specs.Refusals.{usage, read_fault, input_too_long}
 use Rattle.tl_run.specs.Replies.{Meaning, Absent, WithoutInput, ByInput, reads_input, Answers, IsAbsent}
-use Rattle.tl_run.specs.Reading.{FailsEarly, Reading, read_fault_status}
-use Rattle.tl_run.specs.Writing.{Begins, Writing}
+use Rattle.tl_run.specs.Reading.{FailsEarly, read_fault_status}
+use Rattle.tl_run.specs.Writing.{Writing}
 use Rattle.tl_run.specs.Runs.{RunAnswers, Runs}
 use Rattle.tl_run.proofs.ReaderLemmas.{IsHeard, OfInput-long}
 use Rattle.tl_run.proofs.WritingLemmas.{Begins-weaker, Writing-weaker}
@@ -28,6 +28,10 @@ left-is (Some bytes) = refl
 left-at_end : (known : Option (List ℕ)) → IsAtEnd known → left_of known ≡ []
 left-at_end None e = refl
 left-at_end (Some rest) e = e
+
+prepend_known-nil : (known : Option (List ℕ)) → known ≡ prepend_known [] known
+prepend_known-nil None = refl
+prepend_known-nil (Some bytes) = refl
 
 -- ---- answers
 
@@ -55,7 +59,7 @@ runs-usage Absent silent source sink sink' status absent w = record {
   came = [];
   left = left_of source.left;
   reading = record {
-    came_is = same source.left;
+    came_is = prepend_known-nil source.left;
     left_is = left-is source.left;
     nothing = λ e. refl;
     all = λ h. cc h;
@@ -65,10 +69,6 @@ runs-usage Absent silent source sink sink' status absent w = record {
   writing = Writing-weaker (Is usage) _ silent sink sink' status
       (λ a u. RunAnswers-heard Absent (left_of source.left) _ a (ap (λ (b : Answer). b.status == read_fault_status) u) u) w;
 }
-  where
-    same : (known : Option (List ℕ)) → known ≡ prepend_known [] known
-    same None = refl
-    same (Some bytes) = refl
 runs-usage (WithoutInput P) silent source sink sink' status absent w = absurd absent
 runs-usage (ByInput P) silent source sink sink' status absent w = absurd absent
 
@@ -161,16 +161,16 @@ runs-fault m silent source source' sink sink' status bytes reads came short rose
     faulty true false e f g = let is : status ≡ 4 = ap (λ (a : Answer). a.status) (w.whole f) in cc (g, ap (λ (n : ℕ). n == read_fault_status) is)
     faulty false false e f g = cc e
 
--- memory was wanted while the input was read
-pub runs-memory : (m : Meaning) (silent : Bool) (source source' : SourceState) (sink : SinkState) (bytes : List ℕ) → reads_input m ≡ true
+-- memory was wanted before anything was written
+pub runs-memory : (m : Meaning) (silent : Bool) (source source' : SourceState) (sink : SinkState) (bytes : List ℕ) → (reads_input m ≡ false → bytes ≡ [])
     → source.left ≡ prepend_known bytes source'.left → Runs m silent source source' sink sink 6
-runs-memory m silent source source' sink bytes reads came = record {
+runs-memory m silent source source' sink bytes unread came = record {
   came = bytes;
   left = left_of source'.left;
   reading = record {
     came_is = came;
     left_is = left-is source'.left;
-    nothing = λ e. cc (e, reads);
+    nothing = unread;
     all = λ h k. none (reads_input m) h;
     failed = λ e. cc e;
     steady = λ h. cc h;
@@ -190,3 +190,7 @@ runs-memory m silent source source' sink bytes reads came = record {
     none : {A : Type 0} (a : Bool) → (a && false && true) ≡ true → A
     none true e = cc e
     none false e = cc e
+
+-- memory was wanted before anything was read: a run, whatever the words
+pub runs-unread : (m : Meaning) (silent : Bool) (source : SourceState) (sink : SinkState) → Runs m silent source source sink sink 6
+runs-unread m silent source sink = runs-memory m silent source source sink [] (λ e. refl) (prepend_known-nil source.left)

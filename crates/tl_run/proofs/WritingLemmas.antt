@@ -1,10 +1,9 @@
 -- From what is written to what a run writes.
-use Rattle.std.proofs.Common.{◌≡◌, ◌⊎◌, inl, inr, ℕ, Bool, true, false, List, [], ◌++◌, Option, refl, sym, ◌∙◌, ap, subst, append_assoc}
-use Rattle.std.specs.Prelude.{IsTrue}
+use Rattle.std.proofs.Common.{◌≡◌, inl, inr, ℕ, Bool, true, false, List, [], ◌++◌, Option, refl, sym, ◌∙◌, ap, subst, append_assoc}
 use Rattle.std.specs.Io.KnownBytes.{append_known}
 use Rattle.tl_io.specs.Counts.{Rose}
 use Rattle.tl_io.specs.States.{SinkState}
-use Rattle.tl_io.specs.Writes.{IsPrefixOf, AppendsPart}
+use Rattle.tl_io.specs.Writes.{AppendsPart}
 use Rattle.tl_io.proofs.Known.{append_known-nil, append_known-append}
 use Rattle.tl_run.specs.Answers.{Answer, answer, Allows, Is, is_whole}
 use Rattle.tl_run.specs.Writing.{Appends, Begins, Writing}

@@ -1,6 +1,6 @@
 -- Readers of an input: each hands on what it read and the bytes that follow, or its refusal is the answer. So the order
 -- of refusals is the order in which readers stand inside one another.
-use Rattle.std.specs.Prelude.{◌≡◌, ◌⊎◌, ℕ, nat_lt, List, length, MatchBool, MatchOption}
+use Rattle.std.specs.Prelude.{◌⊎◌, ℕ, nat_lt, List, length, MatchBool, MatchOption}
 use Rattle.tl_definitions.specs.declared.Tile.{Tile}
 use Rattle.tl_definitions.specs.Region.{Region}
 use Rattle.tl_formats.specs.Input.{first_section, further_section, rest_is_empty}

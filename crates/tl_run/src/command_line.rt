@@ -1,7 +1,9 @@
 //! The words of the command line: the arguments of the process after its name.
 
-ghost use Rattle.std.specs.Prelude.{◌≡◌, map, IfOk};
+ghost use Rattle.std.specs.Prelude.{◌≡◌, ℕ, List, map, IfOk};
 ghost use Rattle.std.specs.String.{string_bytes};
+ghost use Rattle.tl_run.specs.Runs.{IsRun};
+ghost use Rattle.tl_run.specs.Statuses.{code_of};
 
 use crate::run::run_quiet;
 use crate::status::Status;
@@ -53,14 +55,18 @@ fn borrowed(alloc: Global, words: &[String]) -> Result<Vec<&str>, AllocError>
     Ok(all)
 }
 
-// Runs the program on the words of the command line, as `run_quiet` does.
+// Runs the program on the words of the command line, as `run_quiet` does. That it does so with some words is proved:
+// the runtime promises nothing of its arguments.
 fn run_command_line<R: Env + Threads, S: Source, K: Sink + Send, G: Gate + Sync>(
     rt: &R,
     alloc: Global,
     source: &mut S,
     sink: &mut K,
     gate: &G,
-) -> Status {
+) -> Status
+    ensures run { (words : List (List ℕ)) × IsRun words (S.state source.old) (S.state source.new)
+        (K.state sink.old) (K.state sink.new) (code_of result) }
+{
     let Ok(line) = words_of(rt, alloc) else {
         return Status::OutOfMemory;
     };

@@ -1,9 +1,7 @@
-use Rattle.std.proofs.Common.{◌≡◌, ◌+◌, ◌≤◌, List, ℕ, Err, length, refl, sym, ap, subst}
+use Rattle.std.proofs.Common.{◌≡◌, ◌+◌, ◌≤◌, List, ℕ, Err, length, sym, ap, subst}
 use Rattle.tl_io.specs.Reads.{IsStopAfter}
 use Rattle.tl_io.specs.declared.reading.InFault.{InFault}
 use Rattle.tl_formats.specs.declared.TheConstants.{INPUT_LIMIT}
-use Rattle.tl_run.specs.Answers.{Is, Answer}
-use Rattle.tl_run.specs.Refusals as answers
 use Rattle.tl_run.specs.Replies.{Answers, meaning_of, takes_memory_first}
 use Rattle.tl_run.specs.Statuses.{code_of}
 use Rattle.tl_run.specs.Writing.{Writing}
@@ -42,4 +40,4 @@ returns-in-Err-InputTooLong g c =
 pub returns-in-Err-OutOfMemory : goal.returns-in-Err-OutOfMemory
 returns-in-Err-OutOfMemory g c =
     let (bytes, given, stop) = c.in-Err-OutOfMemory.ensures.stopped in
-    runs-memory (meaning_of c.args.command) (takes_memory_first c.args.command) _ _ _ bytes c.requires given
+    runs-memory (meaning_of c.args.command) (takes_memory_first c.args.command) _ _ _ bytes (λ e. cc (e, c.requires)) given
