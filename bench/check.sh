@@ -1,10 +1,10 @@
 #!/usr/bin/env bash
-# Times the built program on full squares with a drawing, and on combs and spirals without one, of 64 to 512 rows.
-# Prints nanoseconds per place of the region's rows and columns, the quickest of the given number of runs (5 if left
-# out), and the peak memory. Fails where a place of a shape costs more than 1.5 times as much at 512 rows as at 128.
+# Counts the instructions of the built program on full squares with a drawing, and on combs and spirals without one, of
+# 64 to 512 rows, by valgrind. Prints instructions per place of the region's rows and columns, without those of a run
+# on no input, and the peak memory. Fails where a place of a shape costs more than 1.2 times as much at 512 rows as at
+# 128.
 set -eu
 cd "$(dirname "$0")/.."
-runs=${1:-5}
 ./tilings check <examples/two-dominoes.txt >/dev/null
 work=$(mktemp -d)
 trap 'rm -rf "$work"' EXIT
@@ -44,28 +44,22 @@ input() {
         }'
 }
 
-# The seconds of one run, and the greatest resident memory in kilobytes.
-run() {
-    local start end
-    start=$(date +%s%N)
-    env time -f '%M' -o "$work/memory" ./crates/tilings/out/tilings check <"$1" >"$work/reply" || true
-    end=$(date +%s%N)
-    echo "$((end - start)) $(tail -n 1 "$work/memory")"
+# The instructions of one run.
+count() {
+    valgrind --tool=callgrind --callgrind-out-file=/dev/null ./crates/tilings/out/tilings check <"$1" 2>&1 >/dev/null |
+        awk '$2 == "Collected" { print $4 }'
 }
 
+start=$(count /dev/null)
 status=0
 for shape in square comb spiral; do
     for n in 64 128 256 512; do
         input "$shape" "$n" >"$work/input"
-        best=
-        for _ in $(seq "$runs"); do
-            read -r time memory < <(run "$work/input")
-            if [ -z "$best" ] || [ "$time" -lt "$best" ]; then best=$time; fi
-        done
-        places=$((n * n))
-        echo "$shape $n: $((best / places)) ns a place, $memory KB, $(cat "$work/reply")"
-        if [ "$n" = 128 ]; then small=$((best * 16)); fi
-        if [ "$n" = 512 ] && [ "$((best * 2))" -gt "$((small * 3))" ]; then status=1; fi
+        env time -f '%M' -o "$work/memory" ./crates/tilings/out/tilings check <"$work/input" >"$work/reply" || true
+        work_done=$(($(count "$work/input") - start))
+        echo "$shape $n: $((work_done / (n * n))) instructions a place, $(tail -n 1 "$work/memory") KB, $(cat "$work/reply")"
+        if [ "$n" = 128 ]; then small=$((work_done * 16)); fi
+        if [ "$n" = 512 ] && [ "$((work_done * 5))" -gt "$((small * 6))" ]; then status=1; fi
     done
 done
 exit "$status"

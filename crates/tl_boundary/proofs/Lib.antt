@@ -1,4 +1,3 @@
 mod Prefixes
-mod PassedLemmas
-mod RoundLemmas
+mod TableLemmas
 mod OneCircuit

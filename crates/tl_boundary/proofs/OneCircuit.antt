@@ -8,9 +8,7 @@ use Rattle.tl_lists.proofs.Members.{In}
 use Rattle.tl_definitions.proofs.NextCorner.{one_side_from}
 use Rattle.tl_definitions.proofs.Walks.{IsFreeOfPinches, distinct-tail}
 use Rattle.tl_definitions.proofs.Circuits.{no_pinch-sides}
-use Rattle.tl_closing.proofs.Edges.{Distinct-cells}
-use Rattle.tl_closing.proofs.Circuit.{walk-boundary, boundary-walk}
-use Rattle.tl_closing.proofs.Start.{first-one}
+use Rattle.tl_closing.proofs.Stated.{Distinct-cells, walk-boundary, boundary-walk, first-one}
 
 -- Sides of the boundary, each going on where the one before ends, and the last to a corner.
 record GoesOn (R : Region) (end : Corner) (s : Side) (ss : List Side) : Type 0 where

@@ -1,11 +1,12 @@
 -- The sums of the first signs of a list of sides.
-use Rattle.std.proofs.Common.{◌≡◌, ℕ, zero, suc, ◌<◌, ◌≤◌, Bool, true, false, cond, List, [], ◌∷◌, ◌++◌, map, length, Some, ◌∙◌, ap, arith, ℤ, pos, negsuc, ◌+ℤ◌, ◌-ℤ◌, neg_ℤ, ◌≤ℤ◌}
-use Rattle.std.specs.Prelude.{slice_get, option_map}
+use Rattle.std.proofs.Common.{w8, w64, ◌≡◌, ℕ, zero, suc, ◌+◌, ◌≤◌, Bool, true, false, cond, List, [], ◌∷◌, Some, ◌∙◌, ap, arith, ℤ, pos, negsuc, ◌+ℤ◌, neg_ℤ, ◌≤ℤ◌}
+use Rattle.std.specs.Prelude.{slice_get}
+use mir.Val.{SFits, to_z, of_z}
 use Rattle.std.proofs.lemmas.Int.{ints}
-use Rattle.std.proofs.lemmas.List.{take-append-le, take_all}
+use Rattle.std.proofs.Math.Numerals.{add-one}
 use Rattle.tl_definitions.specs.Lattice.{is_dark, Side}
+use Rattle.tl_definitions.specs.Limits.{most_corners}
 use Rattle.tl_definitions.specs.Obstruction.{sign, prefix}
-use Rattle.tl_lists.specs.Lists.{int_sum}
 
 -- a sign is 1 or -1
 pub sign-small : (s : Side) → (negsuc 0 ≤ℤ sign s) × (sign s ≤ℤ pos 1)
@@ -30,39 +31,14 @@ prefix-next [] k s e = cc e
 prefix-next (t ∷ sides) zero s e = let same : t ≡ s = cc e in omega (arith, ints, ap sign same)
 prefix-next (t ∷ sides) (suc k) s e = let rest = prefix-next sides k s e in omega (arith, ints, rest)
 
-pub sign-prefixes : (sides : List Side) (k : ℕ) → k < length sides → option_map sign (slice_get sides k) ≡ Some (prefix sides (suc k) -ℤ prefix sides k)
-sign-prefixes [] k h = absurd (omega (arith, h))
-sign-prefixes (s ∷ sides) zero h = ap (λ (z : ℤ). Some z) (alone (sign s))
-  where
-    alone : (z : ℤ) → z ≡ (z +ℤ pos 0) -ℤ pos 0
-    alone z = omega (arith, ints)
-sign-prefixes (s ∷ sides) (suc k) h =
-    sign-prefixes sides k (omega (arith, h)) ∙ ap (λ (z : ℤ). Some z) (shift (sign s) (prefix sides (suc k)) (prefix sides k))
-  where
-    shift : (c a b : ℤ) → a -ℤ b ≡ (c +ℤ a) -ℤ (c +ℤ b)
-    shift c a b = omega (arith, ints)
+-- the sum as the code has it, with the sign as it is read from 8 bits
+pub record IsNextSum (sides : List Side) (k : ℕ) (sum more : ℤ) : Type 0 where
+  pub fits : SFits w64 (sum +ℤ to_z w64 (of_z w64 more))
+  pub is : to_z w64 (of_z w64 (sum +ℤ to_z w64 (of_z w64 more))) ≡ prefix sides (k + 1)
 
--- two neighbouring prefixes differ by no more than 1
-pub step-small : (sides : List Side) (k : ℕ) → (negsuc 0 ≤ℤ (prefix sides (suc k) -ℤ prefix sides k)) × ((prefix sides (suc k) -ℤ prefix sides k) ≤ℤ pos 1)
-step-small [] zero = (omega (arith, ints), omega (arith, ints))
-step-small [] (suc k) = (omega (arith, ints), omega (arith, ints))
-step-small (s ∷ sides) zero = let one = sign-small s in (omega (arith, ints, one.0), omega (arith, ints, one.1))
-step-small (s ∷ sides) (suc k) = let rest = step-small sides k in (omega (arith, ints, rest.0), omega (arith, ints, rest.1))
-
--- the prefix of all
-pub prefix-all : (sides : List Side) → prefix sides (length sides) ≡ int_sum (map sign sides)
-prefix-all sides = ap (λ (l : List Side). int_sum (map sign l)) (take_all (length sides) sides (omega arith))
-
--- one side more
-pub prefix-before : (sides : List Side) (s : Side) (k : ℕ) → k ≤ length sides → prefix (sides ++ s ∷ []) k ≡ prefix sides k
-prefix-before sides s k h = ap (λ (l : List Side). int_sum (map sign l)) (take-append-le k sides (s ∷ []) h)
-
-pub prefix-after : (sides : List Side) (s : Side) → prefix (sides ++ s ∷ []) (suc (length sides)) ≡ prefix sides (length sides) +ℤ sign s
-prefix-after [] s = alone (sign s)
-  where
-    alone : (z : ℤ) → z +ℤ pos 0 ≡ pos 0 +ℤ z
-    alone z = omega (arith, ints)
-prefix-after (t ∷ sides) s = step (sign t) (prefix (sides ++ s ∷ []) (suc (length sides))) (prefix sides (length sides)) (sign s) (prefix-after sides s)
-  where
-    step : (c a b d : ℤ) → a ≡ b +ℤ d → c +ℤ a ≡ (c +ℤ b) +ℤ d
-    step c a b d e = omega (arith, ints, e)
+pub next_sum : (sides : List Side) (k : ℕ) (s : Side) (sum more : ℤ) → slice_get sides k ≡ Some s → k ≤ most_corners → sum ≡ prefix sides k → more ≡ to_z w8 (of_z w8 (sign s)) → IsNextSum sides k sum more
+next_sum sides k s sum more at few e f =
+    let small = prefix-small sides k in
+    let one = sign-small s in
+    let next : prefix sides (k + 1) ≡ prefix sides k +ℤ sign s = ap (prefix sides) (add-one k) ∙ prefix-next sides k s at in
+    record { fits = omega (arith, ints, e, f, small.0, small.1, one.0, one.1, few); is = omega (arith, ints, e, f, small.0, small.1, one.0, one.1, few, next) }

@@ -1,27 +1,31 @@
--- What a walk keeps of the sides that it has passed.
-use Rattle.std.specs.Prelude.{◌≡◌, ℕ, ◌+◌, ◌*◌, ◌<◌, ◌≤◌, ◌==◌, Bool, List, map, length, count_by, slice_get, slice_index, Some}
+-- What is kept of a circuit beside its sides.
+use Rattle.std.specs.Prelude.{◌≡◌, ℕ, ◌+◌, ◌*◌, ◌<◌, ◌≤◌, List, ℤ, map, length, position, slice_index, unwrap_or}
 use Rattle.tl_definitions.specs.declared.Corner.{Corner}
-use Rattle.tl_definitions.specs.Lattice.{Side}
-use Rattle.tl_definitions.specs.Region.{Region}
-use Rattle.tl_definitions.specs.Accepted.{circuit_corners}
-use Rattle.tl_definitions.specs.Obstruction.{prefix}
-use Rattle.tl_grid.specs.Inner.{number_in}
-use Rattle.tl_grid.specs.Sides.{side_of}
-use Rattle.tl_boundary.specs.declared.walk.Walk.{Walk}
 use Rattle.tl_definitions.specs.declared.TheConstants.{NO_NUMBER}
+use Rattle.tl_definitions.specs.Lattice.{corner_eq, Side}
+use Rattle.tl_definitions.specs.Limits.{most_corners}
+use Rattle.tl_definitions.specs.Region.{Region}
+use Rattle.tl_definitions.specs.Accepted.{IsCircuit, circuit_corners}
+use Rattle.tl_definitions.specs.Obstruction.{prefix}
+use Rattle.tl_lists.specs.Lists.{upto}
+use Rattle.tl_grid.specs.Grid.{IsGrid}
+use Rattle.tl_grid.specs.Survey.{place_in}
 
--- no side has left the corner of the place
-abbrev pub is_free : ℕ → Bool
-is_free place = place == NO_NUMBER
+-- the number of a corner in a list of corners, or 2^32 - 1 where it isn't in it
+abbrev pub number_in : List Corner → Corner → ℕ
+number_in corners v = unwrap_or (position (corner_eq v) corners) NO_NUMBER
 
--- The sides, the sums of the signs of the first of them, and the number of each corner place of the region among the
--- corners from which they go. Each of them has taken one place.
-pub record HasPassed (R : Region) (sides : List Side) (w : Walk) : Type 0 where
-  pub width : w.width ≡ R.columns + 2
-  pub size : length w.places.items ≡ (R.rows + 1) * (R.columns + 2)
-  pub passed : map side_of w.sides.items ≡ sides
-  pub sums : length w.prefixes.items ≡ length sides + 1
-  pub prefixes : (k : ℕ) → k ≤ length sides → slice_get w.prefixes.items k ≡ Some (prefix sides k)
-  pub places : (v : Corner) → v.r < R.rows + 1 → v.x < R.columns + 2
-      → slice_index w.places.items (v.r * (R.columns + 2) + v.x) ≡ number_in (circuit_corners sides) v
-  pub taken : length sides + count_by is_free w.places.items ≡ length w.places.items
+-- these numbers, for each corner place of the region
+pub record AreNumbers (R : Region) (corners : List Corner) (numbers : List ℕ) : Type 0 where
+  pub size : length numbers ≡ (R.rows + 1) * (R.columns + 2)
+  pub at : (v : Corner) → v.r < R.rows + 1 → v.x < R.columns + 2
+      → slice_index numbers (place_in (R.columns + 2) v) ≡ number_in corners v
+
+-- The sums of the signs of the first 0, 1, 2, .. sides, and the numbers of the corners, in rows of this width.
+pub record HasTables (R : Region) (sides : List Side) (sums : List ℤ) (width : ℕ) (numbers : List ℕ) : Type 0 where
+  pub is_grid : IsGrid R
+  pub circuit : IsCircuit R sides
+  pub few : length sides ≤ most_corners
+  pub prefixes : sums ≡ map (prefix sides) (upto (length sides + 1))
+  pub wide : width ≡ R.columns + 2
+  pub places : AreNumbers R (circuit_corners sides) numbers

@@ -7,52 +7,53 @@ ghost use Rattle.tl_definitions.specs.Accepted.{IsPlaced, IsCircuit, circuit_cor
 ghost use Rattle.tl_definitions.specs.Obstruction.{sign as sign_of, prefix as prefix_of, total as total_of};
 ghost use Rattle.tl_lists.specs.Lists.{int_sum};
 ghost use Rattle.tl_closing.specs.Colours.{dark_count, light_count};
-ghost use Rattle.tl_grid.specs.Grid.{IsGrid};
-ghost use Rattle.tl_grid.specs.Sides.{side_of};
-ghost use Rattle.tl_boundary.specs.Walk.{HasPassed};
+ghost use Rattle.tl_grid.specs.Sides.{side_by};
 
-use crate::walk::Walk;
 use std::marker::Model;
 use tl_definitions::NO_NUMBER;
-use tl_lattice::Corner;
+use tl_lattice::{Corner, Kind, is_dark};
+use tl_region::BoundaryStep;
 
 /// The boundary circuit of a region: the list of its boundary sides in order.
+///
+/// Beside them it keeps the sums of the signs of the first 0, 1, 2, .. of them, and for each corner place of the region,
+/// row by row, the number of the side that leaves the corner.
 #[derive(Drop)]
 pub struct Circuit {
-    walk: Walk,
+    pub(crate) kind: Kind,
+    pub(crate) steps: Vec<BoundaryStep>,
+    pub(crate) prefixes: Vec<i64>,
+    pub(crate) width: usize,
+    pub(crate) places: Vec<u32>,
 }
 
 impl Model for Circuit {
     ghost use Rattle.std.specs.Prelude.{List, map};
     ghost use Rattle.tl_definitions.specs.Lattice.{Side};
     ghost use Rattle.tl_definitions.specs.Region.{Region};
-    ghost use Rattle.tl_definitions.specs.Accepted.{IsCircuit};
-    ghost use Rattle.tl_grid.specs.Grid.{IsGrid};
-    ghost use Rattle.tl_grid.specs.Sides.{side_of};
-    ghost use Rattle.tl_boundary.specs.Walk.{HasPassed};
+    ghost use Rattle.tl_grid.specs.Sides.{side_by};
+    ghost use Rattle.tl_boundary.specs.Walk.{HasTables};
 
     ghost Value = { List Side };
 
-    ghost view = { λ s. map side_of s.walk.sides.items };
+    ghost view = { λ s. map (side_by s.kind) s.steps.items };
 
-    ghost invariant = { λ s. (R : Region) × IsGrid R × IsCircuit R (map side_of s.walk.sides.items) × HasPassed R (map side_of s.walk.sides.items) s.walk };
+    ghost invariant = { λ s. (R : Region) × HasTables R (map (side_by s.kind) s.steps.items) s.prefixes.items s.width s.places.items };
+}
+
+/// 1 where the cell of the side is dark, and -1 where it is light.
+pub(crate) fn sign(kind: Kind, step: BoundaryStep) -> i8
+    ensures { result ≡ sign_of (side_by kind step) }
+{
+    if is_dark(step.side(kind).cell) { 1 } else { -1 }
 }
 
 impl Circuit {
-    /// The circuit that the walk went round.
-    pub(crate) fn of(walk: Walk) -> Circuit
-        requires { (R : Region) × IsGrid R × IsCircuit R (map side_of walk.sides.items)
-            × HasPassed R (map side_of walk.sides.items) walk }
-        ensures { result ≡ map side_of walk.sides.items }
-    {
-        Circuit { walk }
-    }
-
     /// How many sides it has, and corners.
     pub fn len(&self) -> u32
         ensures { result ≡ length self.now }
     {
-        self.walk.sides.len() as u32
+        self.steps.len() as u32
     }
 
     /// The sum of all signs. It is the number of dark cells less that of light ones, times 4, or times 3 on the
@@ -63,21 +64,21 @@ impl Circuit {
         ensures colours { (R : Region) → IsPlaced R → IsCircuit R self.now
             → result ≡ pos (rise R.kind) *ℤ (pos (dark_count R) -ℤ pos (light_count R)) }
     {
-        self.walk.prefixes[self.walk.sides.len()]
+        self.prefix(self.len())
     }
 
     /// The place of the corner on the circuit; None where it isn't on it. Any pair may be asked for.
     pub fn place_of(&self, corner: Corner) -> Option<u32>
         ensures { result ≡ position (corner_eq corner) (circuit_corners self.now) }
     {
-        if corner.x as usize >= self.walk.width {
+        if corner.x as usize >= self.width {
             return None;
         }
-        let place = corner.r as usize * self.walk.width + corner.x as usize;
-        if place >= self.walk.places.len() {
+        let place = corner.r as usize * self.width + corner.x as usize;
+        if place >= self.places.len() {
             return None;
         }
-        let number = self.walk.places[place];
+        let number = self.places[place];
         if number == NO_NUMBER {
             None
         } else {
@@ -90,7 +91,11 @@ impl Circuit {
         requires { k < length self.now }
         ensures { slice_get (circuit_corners self.now) k ≡ Some result }
     {
-        self.walk.sides[k as usize].from
+        let step = self.steps[k as usize];
+        Corner {
+            r: u32::from(step.r),
+            x: u32::from(step.x),
+        }
     }
 
     /// The sign of the side from this place, below `len`, to the next.
@@ -98,7 +103,7 @@ impl Circuit {
         requires { k < length self.now }
         ensures { option_map sign_of (slice_get self.now k) ≡ Some result }
     {
-        (self.walk.prefixes[k as usize + 1] - self.prefix(k)) as i8
+        sign(self.kind, self.steps[k as usize])
     }
 
     /// The sum of the first `k` signs, at most `len` of them.
@@ -108,7 +113,7 @@ impl Circuit {
         ensures low { neg_ℤ (pos k) ≤ℤ result }
         ensures high { result ≤ℤ pos k }
     {
-        self.walk.prefixes[k as usize]
+        self.prefixes[k as usize]
     }
 
     /// The prefix of the second place less that of the first.

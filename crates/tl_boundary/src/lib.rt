@@ -5,20 +5,16 @@
 //! where its cell is dark, and -1 where it is light.
 #![tactic(auto)]
 
-ghost use Rattle.std.specs.Prelude.{◌≡◌, [], List, IsTrue, IfOk, OnOk};
+ghost use Rattle.std.specs.Prelude.{◌≡◌, List, IfOk};
 ghost use Rattle.tl_definitions.specs.Lattice.{Side};
-ghost use Rattle.tl_definitions.specs.Accepted.{Accepted, IsCircuit};
-ghost use Rattle.tl_definitions.specs.Boundary.{is_boundary_corner, IsClosedWalk};
-ghost use Rattle.tl_grid.specs.Grid.{IsGrid};
-ghost use Rattle.tl_boundary.specs.Walk.{HasPassed};
+ghost use Rattle.tl_definitions.specs.Accepted.{IsCircuit};
 
 mod circuit_type;
-mod walk;
 
-use crate::walk::Walk;
+use crate::circuit_type::sign;
 pub use circuit_type::Circuit;
 use std::alloc::{AllocError, Global};
-use tl_lattice::Corner;
+use tl_definitions::NO_NUMBER;
 use tl_region::Region;
 
 /// The boundary circuit of the region.
@@ -27,31 +23,25 @@ pub fn circuit(alloc: Global, region: &Region) -> Result<Circuit, AllocError>
     ensures only { IfOk result (λ circuit. (other : List Side) → IsCircuit region.now other
         → other ≡ circuit) }
 {
-    let mut walk = Walk::new(alloc, region)?;
-    if let Some(start) = region.first_boundary_corner() {
-        go_round(region, start, &mut walk)?;
+    let kind = region.kind();
+    let steps = region.boundary();
+    let width = region.columns() as usize + 2;
+    let mut places = vec![in alloc; NO_NUMBER; (region.rows() as usize + 1) * width]?;
+    let mut sum = 0;
+    let mut prefixes = Vec::with_capacity(alloc, steps.len() + 1)?;
+    prefixes.push(sum)?;
+    for (k, step) in steps.iter().enumerate() {
+        places[step.r as usize * width + step.x as usize] = k as u32;
+        sum += i64::from(sign(kind, *step));
+        prefixes.push(sum)?;
     }
-    Ok(Circuit::of(walk))
-}
-
-// Goes along the boundary, with the region on the left, until it comes back.
-fn go_round(region: &Region, start: Corner, walk: &mut Walk) -> Result<(), AllocError>
-    requires is_grid { IsGrid region.now }
-    requires accepted { Accepted region.now }
-    requires start { IsTrue (is_boundary_corner region.now start) }
-    requires empty { HasPassed region.now [] walk.old }
-    ensures { OnOk result ((sides : List Side) × IsClosedWalk region.now start sides
-        × HasPassed region.now sides walk.new) }
-{
-    let mut corner = start;
-    while !walk.has(corner) {
-        let Some(side) = region.side_from(corner) else {
-            unreachable!()
-        };
-        walk.push(side)?;
-        corner = side.to;
-    }
-    Ok(())
+    Ok(Circuit {
+        kind,
+        steps: steps.to_vec(alloc)?,
+        prefixes,
+        width,
+        places,
+    })
 }
 
 #[cfg(test)]

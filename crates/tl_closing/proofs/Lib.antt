@@ -1,32 +1,33 @@
-pub mod Merge
-pub mod Residues
-pub mod Sides
-pub mod Shared
-pub mod Centres
-pub mod Edges
-pub mod Round
-pub mod Closing
-pub mod Crossed
-pub mod Circuit
-pub mod Near
-pub mod Boundary
-pub mod Falls
-pub mod Partnered
-pub mod Start
-pub mod AlongSteps
-pub mod Numbers
-pub mod Heights
-pub mod Ring
-pub mod Standing
-pub mod Changed
-pub mod InnerSteps
-pub mod Bounds
-pub mod TilesInOrder
-pub mod RingTiles
-pub mod Exchange
-pub mod Flips
-pub mod Flipped
-pub mod Colours
-pub mod Filling
-pub mod OnCircuit
-pub mod PutNumbers
+pub mod Stated
+mod Merge
+mod Residues
+mod Sides
+mod Shared
+mod Centres
+mod Edges
+mod Round
+mod Closing
+mod Crossed
+mod Circuit
+mod Near
+mod Boundary
+mod Falls
+mod Partnered
+mod Start
+mod AlongSteps
+mod Numbers
+mod Heights
+mod Ring
+mod Standing
+mod Changed
+mod InnerSteps
+mod Bounds
+mod TilesInOrder
+mod RingTiles
+mod Exchange
+mod Flips
+mod Flipped
+mod Colours
+mod Filling
+mod OnCircuit
+mod PutNumbers

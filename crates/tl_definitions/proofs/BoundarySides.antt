@@ -9,7 +9,7 @@ use Rattle.tl_definitions.specs.Region.{Region, has, has_at, all_sides, is_other
 use Rattle.tl_definitions.specs.Darts.{darts, left_cell, right_cell, other_end}
 use Rattle.tl_definitions.proofs.Cells.{In-any, In-has}
 use Rattle.tl_lists.proofs.Members.{In, In-filter, In-flat_map, In-flat_map_parts, list_all-In, In-list_all, In-filter_parts}
-use Rattle.tl_definitions.proofs.Darts.{Lies, IsEnd, LeavesBy, EntersBy, cell_back-lies, lies-cell_back, end-is, same_dart, side_darts}
+use Rattle.tl_definitions.proofs.Darts.{Lies, IsEnd, EntersBy, cell_back-lies, lies-cell_back, end-is, same_dart, side_darts}
 use Rattle.tl_definitions.proofs.DartSides.{IsSideOf, left_side, right_side}
 use Rattle.tl_definitions.proofs.CornerRings.{has_at-some, has-has_at}
 use Rattle.tl_definitions.proofs.Corners.{corner_eq-same, corner_eq-refl}
@@ -120,30 +120,3 @@ leaving_side R v g c h i is in_R out =
             let (b, k, m) = In-flat_map_parts (sides R.kind) t R.cells j in
             let (d, by) = (side_darts R.kind b t m).1 in
             across t b d k by (corner_eq-same v t.to q.0) (corner_eq-same w t.from q.1)
-
-pub coming_side : (R : Region) (v : Corner) (g : Dart) (c : Cell) → is_corner R.kind v ≡ true → In g (darts R.kind) → right_cell v g ≡ Some c → has R c ≡ true → has_at R (left_cell v g) ≡ false
-    → In (side c (other_end R.kind v g) v) (boundary R)
-coming_side R v g c h i is in_R out =
-    In-filter (is_boundary R) (side c w v) (all_sides R) (list_all-In (λ t. not (is_other_side (side c w v) t)) (all_sides R) alone) (cell_sides R c (side c w v) in_R o.side)
-  where
-    w : Corner
-    w = other_end R.kind v g
-
-    o : IsSideOf R.kind v c g (side c w v)
-    o = right_side R.kind v c g h i (cell_back-lies v g.right c is)
-
-    across : (t : Side) (b : Cell) (d : Dart) → In b R.cells → LeavesBy R.kind b t.from t.to d → v ≡ t.from → w ≡ t.to → ⊥
-    across t b d j by from to =
-        let ends : IsEnd R.kind v d w = subst (λ z. IsEnd R.kind z d w) (sym from) (subst (λ z. IsEnd R.kind t.from d z) (sym to) by.ends) in
-        let lies : Lies v g.left b = subst (λ z. Lies v z.left b) (same_dart R.kind v w d g by.dart i ends o.ends) (subst (λ z. Lies z d.left b) (sym from) by.lies) in
-        cc (sym out, has-has_at R (left_cell v g) b (lies-cell_back v g.left b lies) (In-has b R.cells j))
-
-    alone : (t : Side) → In t (all_sides R) → not (is_other_side (side c w v) t) ≡ true
-    alone t j = not_from_false (is_other_side (side c w v) t) (false_from_ne_true (is_other_side (side c w v) t) none)
-      where
-        none : is_other_side (side c w v) t ≡ true → ⊥
-        none e =
-            let q = and_parts (corner_eq w t.to) (corner_eq v t.from) e in
-            let (b, k, m) = In-flat_map_parts (sides R.kind) t R.cells j in
-            let (d, by) = (side_darts R.kind b t m).0 in
-            across t b d k by (corner_eq-same v t.from q.1) (corner_eq-same w t.to q.0)

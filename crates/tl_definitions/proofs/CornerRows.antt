@@ -1,8 +1,7 @@
 -- The corners of rows and columns in raster order: which they are, where each stands, and one more of them.
-use Rattle.std.proofs.Common.{◌≡◌, ℕ, zero, suc, ◌+◌, ◌-◌, ◌*◌, ◌<◌, ◌≤◌, ◌⊎◌, inl, inr, Bool, true, ◌&&◌, ◌||◌, List, [], ◌∷◌, ◌++◌, map, length, refl, sym, ◌∙◌, ap, arith, get_or, append-nil, append_assoc}
+use Rattle.std.proofs.Common.{◌≡◌, ℕ, zero, suc, ◌+◌, ◌-◌, ◌*◌, ◌<◌, Bool, true, ◌&&◌, ◌||◌, List, [], ◌∷◌, ◌++◌, map, length, refl, sym, ◌∙◌, ap, arith, get_or, append-nil, append_assoc}
 use Rattle.std.specs.Prelude.{flat_map, nat_lt}
 use Rattle.std.specs.List.{list_any, range_with_len}
-use Rattle.std.proofs.lemmas.Bool.{or_cases}
 use Rattle.std.proofs.lemmas.List.{map-append, length-append, get_or_append_left, get_or-append_right}
 use Rattle.std.proofs.lemmas.List.Concat.{flat_map-append}
 use Rattle.std.proofs.lemmas.List.Folds.{list_any-append}
@@ -10,23 +9,11 @@ use Rattle.std.proofs.lemmas.List.FromFn.{map-range_with_len_more, length-map-ra
 use Rattle.tl_definitions.specs.declared.Cell.{Cell}
 use Rattle.tl_definitions.specs.declared.Corner.{Corner}
 use Rattle.tl_definitions.specs.Lattice.{cell, corner, cell_eq, corner_eq, cell_lt, corner_lt}
-use Rattle.tl_definitions.specs.Region.{places}
+use Rattle.tl_definitions.specs.Region.{places, corner_row, corner_rows, corners_before}
 use Rattle.tl_lists.specs.Lists.{upto, linked}
 use Rattle.tl_definitions.proofs.Partners.{rows-linked}
-use Rattle.tl_definitions.proofs.Regions.{row-sound, grid-sound, any-places}
+use Rattle.tl_definitions.proofs.Regions.{any-places}
 use Rattle.tl_lists.proofs.Members.{upto_more}
-
--- the first corners of a row, so many
-abbrev pub corner_row : ℕ → ℕ → List Corner
-corner_row r n = map (λ x. corner r x) (upto n)
-
--- the corners of so many rows, each of that width
-abbrev pub corner_rows : ℕ → ℕ → List Corner
-corner_rows width rows = flat_map (λ r. corner_row r width) (upto rows)
-
--- those before a place of them
-abbrev pub corners_before : ℕ → ℕ → ℕ → List Corner
-corners_before width r x = corner_rows width r ++ corner_row r x
 
 -- ---- one more
 
@@ -60,19 +47,6 @@ rows-as_cells v width (r ∷ rs) =
 
 pub any-corner_rows : (v : Corner) (width rows : ℕ) → list_any (corner_eq v) (corner_rows width rows) ≡ (nat_lt v.r rows && nat_lt v.x width)
 any-corner_rows v width rows = rows-as_cells v width (upto rows) ∙ any-places (cell v.r v.x) rows width
-
--- a place isn't before itself
-pub before-itself : (width r x : ℕ) → list_any (corner_eq (corner r x)) (corners_before width r x) ≡ true → ⊥
-before-itself width r x e =
-    go (or_cases _ _ (sym (list_any-append (corner_eq (corner r x)) (corner_rows width r) (corner_row r x)) ∙ e))
-  where
-    go : (list_any (corner_eq (corner r x)) (corner_rows width r) ≡ true) ⊎ (list_any (corner_eq (corner r x)) (corner_row r x) ≡ true) → ⊥
-    go (inl h) =
-        let p : (0 ≤ r) × (r < 0 + r) × (x < width) = grid-sound (cell r x) width 0 r (sym (rows-as_cells (corner r x) width (upto r)) ∙ h) in
-        omega (arith, p.1)
-    go (inr h) =
-        let p : (r ≡ r) × (0 ≤ x) × (x < 0 + x) = row-sound (cell r x) r 0 x (sym (row-as_cells (corner r x) r (upto x)) ∙ h) in
-        omega (arith, p.2)
 
 -- ---- where each stands
 

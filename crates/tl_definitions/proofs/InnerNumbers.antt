@@ -8,16 +8,16 @@ use Rattle.tl_definitions.specs.declared.Kind.{Kind}
 use Rattle.tl_definitions.specs.declared.Kind.TheVariants.{Square, Triangle}
 use Rattle.tl_definitions.specs.declared.Corner.{Corner}
 use Rattle.tl_definitions.specs.Lattice.{cell, corner_eq, corner_lt, is_corner, cell_back, ring}
-use Rattle.tl_definitions.specs.Region.{Region, has, has_at, corner_places, is_inner, inner_corners}
+use Rattle.tl_definitions.specs.Region.{Region, has, has_at, corner_places, is_inner, inner_corners, corner_rows}
 use Rattle.tl_definitions.specs.Accepted.{IsPlaced}
 use Rattle.tl_lists.specs.Lists.{linked}
 use Rattle.tl_lists.proofs.Orders.{later, linked-tail, linked-filter}
 use Rattle.tl_lists.proofs.Members.{slice_get-In, In-filter_parts}
 use Rattle.tl_definitions.proofs.Regions.{has-within}
 use Rattle.tl_lists.proofs.Tests.{same_test}
-use Rattle.tl_definitions.proofs.CornerRows.{corner_rows, any-corner_rows, corner_rows-linked}
+use Rattle.tl_definitions.proofs.CornerRows.{any-corner_rows, corner_rows-linked}
 use Rattle.tl_definitions.proofs.Corners.{corner_lt-irreflexive, corner_lt-transitive, corner_eq-same, corner_eq-refl}
-use Rattle.tl_lists.proofs.Positions.{filter-filter, position-some, position-missing, position-at}
+use Rattle.tl_lists.proofs.Positions.{filter-filter, position-some, position-missing}
 
 -- ---- where they lie
 
@@ -81,17 +81,6 @@ any-inner_corners R v placed =
         rw (e, lt-ltb v.r (R.rows + 1) (omega (arith, p.row)), lt-ltb v.x (R.columns + 2) (omega (arith, p.column))) refl
 
 -- ---- their numbers
-
--- The corner with a number is the one that has it.
-pub inner-numbered : (R : Region) (v : Corner) (n : ℕ) → position (corner_eq v) (inner_corners R) ≡ Some n → slice_get (inner_corners R) n ≡ Some v
-inner-numbered R v n e = numbered (inner_corners R) (cases_Bool (list_any (corner_eq v) (inner_corners R))) e
-  where
-    numbered : (vs : List Corner) → (list_any (corner_eq v) vs ≡ true) ⊎ (list_any (corner_eq v) vs ≡ false) → position (corner_eq v) vs ≡ Some n → slice_get vs n ≡ Some v
-    numbered vs (inr h) e = cc (position-missing (corner_eq v) vs h, e)
-    numbered vs (inl h) e =
-        let (u, at, same) = position-at (corner_eq v) vs h in
-        let number : position_or_len (corner_eq v) vs ≡ n = cc (position-some (corner_eq v) vs h, e) in
-        subst (λ (i : ℕ). slice_get vs i ≡ Some v) number (at ∙ ap (λ (w : Corner). Some w) (sym (corner_eq-same v u same)))
 
 pub inner_corners-linked : (R : Region) → linked corner_lt (inner_corners R) ≡ true
 inner_corners-linked R =

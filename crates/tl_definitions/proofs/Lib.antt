@@ -19,7 +19,6 @@ pub mod Partners
 pub mod Raster
 pub mod CornerRows
 pub mod InnerNumbers
-pub mod Labels
 pub mod Cells
 pub mod Tiles
 pub mod Decide

@@ -1,5 +1,5 @@
 -- Without a pinch one boundary side leaves each boundary corner, and one comes to it.
-use Rattle.std.proofs.Common.{◌≡◌, ◌-◌, ◌≤◌, true, false, not, Option, Some, None, refl, sym, ◌∙◌, ap, subst, arith}
+use Rattle.std.proofs.Common.{◌≡◌, ◌-◌, true, false, not, Option, Some, None, refl, sym, ◌∙◌, ap, subst, arith}
 use Rattle.std.specs.Prelude.{find, is_some}
 use Rattle.std.proofs.lemmas.Bool.{and_parts, and_from, not-true}
 use Rattle.tl_definitions.specs.declared.Cell.{Cell}
@@ -15,8 +15,8 @@ use Rattle.tl_lists.proofs.Members.{In, any-In, In-any_of}
 use Rattle.tl_definitions.proofs.Darts.{Lies, cell_back-lies}
 use Rattle.tl_lists.proofs.Searches.{find-only, find-In, find-none, none-find}
 use Rattle.tl_definitions.proofs.CornerRings.{has_at-some, has-has_at}
-use Rattle.tl_definitions.proofs.Turns.{one_leaves, one_enters, leaves_where_enters, enters_where_leaves}
-use Rattle.tl_definitions.proofs.BoundarySides.{LeavesThrough, ComesThrough, boundary-corners, boundary-leaves, boundary-comes, leaving_side, coming_side}
+use Rattle.tl_definitions.proofs.Turns.{one_leaves, one_enters, leaves_where_enters}
+use Rattle.tl_definitions.proofs.BoundarySides.{LeavesThrough, ComesThrough, boundary-corners, boundary-leaves, boundary-comes, leaving_side}
 use Rattle.tl_definitions.proofs.Corners.{corner_eq-same, corner_eq-refl}
 
 -- the dart of a boundary side, as a test
@@ -34,13 +34,6 @@ leaves-side R v g h i e =
     let (c, is, in_R) = has_at-some R (left_cell v g) p.0 in
     (c, is, leaving_side R v g c h i is in_R (not-true _ p.1))
 
-pub enters-side : (R : Region) (v : Corner) (g : Dart) → is_corner R.kind v ≡ true → In g (darts R.kind) → enters R v g ≡ true
-    → (c : Cell) × (right_cell v g ≡ Some c) × In (side c (other_end R.kind v g) v) (boundary R)
-enters-side R v g h i e =
-    let p = and_parts (not (has_at R (left_cell v g))) (has_at R (right_cell v g)) e in
-    let (c, is, in_R) = has_at-some R (right_cell v g) p.1 in
-    (c, is, coming_side R v g c h i is in_R (not-true _ p.0))
-
 -- a boundary side leaves where one comes, and comes where one leaves
 pub side_after : (R : Region) (s : Side) → In s (boundary R) → (t : Side) × In t (boundary R) × (t.from ≡ s.to)
 side_after R s i =
@@ -48,13 +41,6 @@ side_after R s i =
     let (h, j, e) = leaves_where_enters R s.to g l.dart (enters-from R s g l) in
     let (c, is, k) = leaves-side R s.to h (boundary-corners R s i).1 j e in
     (side c s.to (other_end R.kind s.to h), k, refl)
-
-pub side_before : (R : Region) (s : Side) → In s (boundary R) → (t : Side) × In t (boundary R) × (t.to ≡ s.from)
-side_before R s i =
-    let (g, l) = boundary-leaves R s i in
-    let (h, j, e) = enters_where_leaves R s.from g l.dart (leaves-from R s g l) in
-    let (c, is, k) = enters-side R s.from h (boundary-corners R s i).0 j e in
-    (side c (other_end R.kind s.from h) s.from, k, refl)
 
 same_side : (s t : Side) → s.cell ≡ t.cell → s.from ≡ t.from → s.to ≡ t.to → s ≡ t
 same_side s t e f g = λ i. record { cell = e i; from = f i; to = g i }
@@ -123,13 +109,6 @@ lies-cell v g c l =
     let rows : c.r ≡ v.r - g.left.rows = omega (arith, l.row) in
     let columns : c.c ≡ v.x - g.left.columns = omega (arith, l.column) in
     λ i. record { r = rows i; c = columns i }
-
--- the cell of the boundary side, by its place
-pub exit-lies : (R : Region) (v : Corner) (g : Dart) → is_corner R.kind v ≡ true → is_pinch R v ≡ false → find (leaves R v) (darts R.kind) ≡ Some g
-    → (g.left.rows ≤ v.r) × (g.left.columns ≤ v.x)
-exit-lies R v g h p e =
-    let (c, l, is) = exit-side R v g h p e in
-    (omega (arith, l.row), omega (arith, l.column))
 
 pub exit-from : (R : Region) (v : Corner) (g : Dart) → is_corner R.kind v ≡ true → is_pinch R v ≡ false → find (leaves R v) (darts R.kind) ≡ Some g
     → Some (side (cell (v.r - g.left.rows) (v.x - g.left.columns)) v (other_end R.kind v g)) ≡ side_from R v

@@ -121,7 +121,3 @@ some_passes {A} p xs h = go (list_any p xs) refl
 pub leaves_where_enters : (R : Region) (v : Corner) (g : Dart) → In g (darts R.kind) → enters R v g ≡ true → (h : Dart) × In h (darts R.kind) × (leaves R v h ≡ true)
 leaves_where_enters R v g i e =
     some_passes (leaves R v) (darts R.kind) (λ z. count_zero (enters R v) (darts R.kind) g (sym (leaves-enters R v) ∙ z) i e)
-
-pub enters_where_leaves : (R : Region) (v : Corner) (g : Dart) → In g (darts R.kind) → leaves R v g ≡ true → (h : Dart) × In h (darts R.kind) × (enters R v h ≡ true)
-enters_where_leaves R v g i e =
-    some_passes (enters R v) (darts R.kind) (λ z. count_zero (leaves R v) (darts R.kind) g (leaves-enters R v ∙ z) i e)

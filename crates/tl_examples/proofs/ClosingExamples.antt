@@ -23,12 +23,7 @@ use Rattle.tl_closing.specs.Changed.{IsChangedAt}
 use Rattle.tl_closing.specs.Standing.{falls_from, falls_to}
 use Rattle.tl_closing.specs.Colours.{dark_count, light_count}
 use Rattle.tl_closing.specs.Closing.{sum_round, steps_round, ClosesRoundCells, IsPotential, HasOnePotential}
-use Rattle.tl_closing.proofs.Edges.{vertices, In-vertices, Step, edges, has-In, In-edges, is_step-parts}
-use Rattle.tl_closing.proofs.Numbers.{numbers_of, numbers_of-heights}
-use Rattle.tl_closing.proofs.Heights.{Start, start-of, heights-lawful}
-use Rattle.tl_closing.proofs.Colours.{total-colours, signs-total}
-use Rattle.tl_closing.proofs.Filling.{FromLeft, rise_from_left, fill-inner}
-use Rattle.tl_closing.proofs.Closing.{IsInOnePart, closing, potential-closes}
+use Rattle.tl_closing.proofs.Stated.{vertices, In-vertices, Step, edges, has-In, In-edges, is_step-parts, numbers_of, numbers_of-heights, Start, start-of, heights-lawful, total-colours, signs-total, FromLeft, rise_from_left, fill-inner, IsInOnePart, closing, potential-closes}
 
 -- by a look at each cell, and at each edge
 closes-by : (R : Region) (difference : Corner → Corner → ℤ) → Each (λ a. sum_round R.kind difference a ≡ pos 0) R.cells → ClosesRoundCells R difference

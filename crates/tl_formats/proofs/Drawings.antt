@@ -74,9 +74,6 @@ pub refused-none : (R : Region) (rows : List (List ℕ)) → first_bad_letter R 
 refused-none R rows e f = rw (e, f, drawing_refusal) refl
 
 -- every place is allowed where none is found that isn't
-max-left : (m n : ℕ) → m ≤ max m n
-max-left m n = omega arith
-
 max-right : (m n : ℕ) → n ≤ max m n
 max-right m n = omega arith
 

@@ -1,9 +1,9 @@
 -- How an input is cut into lines and sections.
-use Rattle.std.proofs.Common.{◌≡◌, ◌≢◌, ℕ, zero, suc, ◌+◌, ◌-◌, ◌<◌, Bool, true, false, not, ◌&&◌, List, [], ◌∷◌, ◌++◌, map, length, take, drop, cond, refl, sym, ◌∙◌, ap, arith, append_assoc}
+use Rattle.std.proofs.Common.{◌≡◌, ◌≢◌, ℕ, zero, suc, ◌+◌, ◌-◌, ◌<◌, Bool, true, false, not, List, [], ◌∷◌, ◌++◌, map, length, take, drop, cond, refl, sym, ◌∙◌, ap, arith, append_assoc}
 use Rattle.std.specs.Prelude.{◌==◌, take_while, slice_index}
-use Rattle.std.specs.List.{list_all, onto_first, concat, prefix_len}
+use Rattle.std.specs.List.{onto_first, concat, prefix_len}
 use Rattle.std.proofs.lemmas.Bool.{eq-eqb, ne_eqb}
-use Rattle.tl_formats.specs.Input.{pieces, without_end, line_of, is_empty_line, Section, open_section, section_of, further_section, rest_is_empty, first_section, taken}
+use Rattle.tl_formats.specs.Input.{pieces, without_end, line_of, is_empty_line, Section, open_section, section_of, further_section, first_section, taken}
 use Rattle.std.proofs.lemmas.List.{take-append-drop, length-append}
 use Rattle.std.proofs.Math.Seq.{drop-append_seam}
 
@@ -44,7 +44,7 @@ one-more n = omega arith
 pub take_while-cons : {A : Type 0} (test : A → Bool) (x : A) (xs : List A) → test x ≡ true → take_while test (x ∷ xs) ≡ x ∷ take_while test xs
 take_while-cons test x xs e = rw (e, one-more (prefix_len test xs)) refl
 
-drop-prefix : {A : Type 0} (test : A → Bool) (x : A) (xs : List A) → test x ≡ true → drop (prefix_len test (x ∷ xs)) (x ∷ xs) ≡ drop (prefix_len test xs) xs
+pub drop-prefix : {A : Type 0} (test : A → Bool) (x : A) (xs : List A) → test x ≡ true → drop (prefix_len test (x ∷ xs)) (x ∷ xs) ≡ drop (prefix_len test xs) xs
 drop-prefix test x xs e = rw (e, one-more (prefix_len test xs)) refl
 
 section_with : List (List ℕ) → List (List ℕ) → Section
@@ -67,19 +67,11 @@ open-empty_line p ps e = rw e refl
 further_of : List (List ℕ) → Section
 further_of ps = section_of (drop (prefix_len is_empty_line ps) ps)
 
-pub further-empty_line : (s t p : List ℕ) → pieces s ≡ p ∷ pieces t → is_empty_line p ≡ true → further_section s ≡ further_section t
-unfolding further_of
-further-empty_line s t p cut e = ap further_of cut ∙ ap section_of (drop-prefix is_empty_line p (pieces t) e)
-
 pub further-line : (s t p : List ℕ) → pieces s ≡ p ∷ pieces t → is_empty_line p ≡ false → open_section (pieces s) ≡ further_section s
 unfolding further_of
 further-line s t p cut e =
     let first : further_of (p ∷ pieces t) ≡ section_of (p ∷ pieces t) = rw e refl in
     ap open_section cut ∙ open-line p (pieces t) e ∙ sym (ap further_of cut ∙ first)
-
--- only line ends stand in an input where the first line is empty and only line ends follow it
-pub rest-line : (s t p : List ℕ) → pieces s ≡ p ∷ pieces t → rest_is_empty s ≡ (is_empty_line p && rest_is_empty t)
-rest-line s t p cut = ap (list_all is_empty_line) cut
 
 -- ---- line ends
 

@@ -1,16 +1,17 @@
 -- The flags of a rectangle, and what the cells of a grid are.
-use Rattle.std.proofs.Common.{◌≡◌, ◌≢◌, ℕ, zero, suc, ◌+◌, ◌*◌, ◌<◌, ◌≤◌, ◌⊎◌, inl, inr, Bool, true, false, ◌||◌, List, [], ◌∷◌, length, take, refl, sym, ◌∙◌, ap, arith, get_or, replicate}
+use Rattle.std.proofs.Common.{◌≡◌, ◌≢◌, le_refl, ℕ, zero, suc, ◌+◌, ◌*◌, ◌<◌, ◌≤◌, ◌⊎◌, inl, inr, Bool, true, false, ◌||◌, List, [], ◌∷◌, length, map, take, drop, refl, sym, ◌∙◌, ap, arith, get_or, replicate}
 use Rattle.std.specs.Prelude.{◌==◌, slice_set, filter, All}
 use Rattle.std.specs.List.{list_any}
 use Rattle.std.proofs.lemmas.Bool.{false_from_ne_true, or_left, or_right}
 use Rattle.std.proofs.lemmas.Nat.{mul-add-lt}
-use Rattle.std.proofs.lemmas.List.{get_or-set_same, get_or-set_other, take_more, length-set, length-replicate}
+use Rattle.std.proofs.lemmas.List.{get_or-set_same, get_or-set_other, take_more, length-set, length-replicate, same_lists, length-take, length-drop, length-map, get_or-take, get_or-drop, get_or-map, get_or_default}
+use Rattle.std.proofs.lemmas.List.FromFn.{length-map-range_with_len, get_or-map-range_with_len}
 use Rattle.std.proofs.lemmas.List.Folds.{list_any-append}
 use Rattle.std.proofs.lemmas.List.Sums.{length-filter, count_by-le-length}
 use Rattle.std.proofs.Math.Nat.{mul_comm, mul-le-mul}
 use Rattle.tl_definitions.specs.declared.Cell.{Cell}
-use Rattle.tl_definitions.specs.Lattice.{cell_eq}
-use Rattle.tl_definitions.specs.Region.{Region, has, places}
+use Rattle.tl_definitions.specs.Lattice.{cell, cell_eq}
+use Rattle.tl_definitions.specs.Region.{Region, has, places, row_part}
 use Rattle.tl_definitions.proofs.Regions.{has-within, same_place, length-places}
 use Rattle.tl_definitions.proofs.Cells.{cell_eq-parts, cell_eq-of_parts}
 use Rattle.tl_lists.proofs.Tests.{same_test, nat_cases}
@@ -104,3 +105,26 @@ pub place-within : (R : Region) (a : Cell) → IsGrid R → has R a ≡ true →
 place-within R a k e =
     let p : (a.r < R.rows) × (a.c < R.columns) = has-within R a k.placed e in
     omega (arith, mul-add-lt a.r R.columns a.c R.rows p.0 p.1, mul_comm R.columns R.rows)
+
+-- the flags of a row
+pub row-flags : (rows columns r : ℕ) (cells : List Cell) (flags : List Bool) → AreFlagsOf rows columns cells flags → r < rows
+    → take columns (drop (r * columns) flags) ≡ map (λ a. list_any (cell_eq a) cells) (row_part r 0 columns)
+row-flags rows columns r cells flags f h =
+    same_lists (take columns (drop (r * columns) flags)) (map (λ a. list_any (cell_eq a) cells) (row_part r 0 columns)) (long ∙ sym (length-row columns))
+    (λ k d i. at k d (omega (arith, i, long)))
+  where
+    room : r * columns + columns ≤ length flags
+    room = omega (arith, mul-le-mul h (le_refl columns), f.size)
+
+    long : length (take columns (drop (r * columns) flags)) ≡ columns
+    long = length-take columns (drop (r * columns) flags) ∙ omega (arith, length-drop (r * columns) flags, room)
+
+    length-row : (n : ℕ) → length (map (λ a. list_any (cell_eq a) cells) (row_part r 0 n)) ≡ n
+    length-row n = length-map (row_part r 0 n) (λ a. list_any (cell_eq a) cells) ∙ length-map-range_with_len (λ c. cell r c) 0 n
+
+    at : (k : ℕ) (d : Bool) → k < columns → get_or (take columns (drop (r * columns) flags)) k d ≡ get_or (map (λ a. list_any (cell_eq a) cells) (row_part r 0 columns)) k d
+    at k d i =
+        get_or-take columns (drop (r * columns) flags) k d i ∙ get_or-drop (r * columns) flags k d
+        ∙ get_or_default flags (r * columns + k) d false (omega (arith, room, i)) ∙ f.is_set (cell r k) h i
+        ∙ sym (get_or-map (λ a. list_any (cell_eq a) cells) (row_part r 0 columns) k (cell r k) d (omega (arith, length-map-range_with_len (λ c. cell r c) 0 columns, i))
+        ∙ ap (λ (a : Cell). list_any (cell_eq a) cells) (get_or-map-range_with_len (λ c. cell r c) 0 columns k k (cell r k) i (omega arith)))

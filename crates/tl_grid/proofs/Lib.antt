@@ -1,8 +1,7 @@
 pub mod GridLemmas
+pub mod FloodLemmas
+pub mod OnePart
 pub mod InnerLemmas
-pub mod CornerScans
-mod FloodLemmas
-mod EulerCounts
-mod MarkLemmas
+pub mod PatternLemmas
+pub mod SurveyLemmas
 pub mod WalkLemmas
-mod PictureLemmas

@@ -1,34 +1,43 @@
--- The walk along the boundary, by the corners that are marked.
-use Rattle.std.proofs.Common.{◌≡◌, ◌+◌, ◌*◌, ◌<◌, Bool, true, false, ◌&&◌, not, List, [], ◌∷◌, ◌++◌, Option, Some, None, refl, sym, ◌∙◌, ap, subst}
-use Rattle.std.specs.Prelude.{find, slice_set, is_some}
-use Rattle.std.specs.List.{list_any}
-use Rattle.std.proofs.lemmas.Bool.{and_parts, and_from}
+-- The walk along the boundary, by the exits that are left.
+use Rattle.std.proofs.Common.{◌≡◌, ◌≢◌, ℕ, ◌+◌, ◌*◌, ◌<◌, ◌≤◌, ◌⊎◌, inl, inr, Bool, true, false, ◌||◌, not, cond, List, [], ◌∷◌, ◌++◌, map, length, Option, Some, refl, sym, ◌∙◌, ap, subst, arith, get_or}
+use Rattle.std.specs.Prelude.{◌==◌, find, filter, slice_set, count_by, unwrap_or}
+use Rattle.std.specs.List.{list_any, position_or_len}
+use Rattle.std.proofs.lemmas.Bool.{cases_Bool, cases_eq, ne_eqb, false_from_ne_true}
+use Rattle.std.proofs.lemmas.List.{get_or-set_same, get_or-set_other, length-set, length-map}
+use Rattle.std.proofs.lemmas.List.Folds.{find_at, list_any-append}
+use Rattle.std.proofs.lemmas.List.Sums.{sum_by-set}
+use Rattle.std.proofs.lemmas.Option.{slice_get-get_or}
+use Rattle.std.proofs.lemmas.Nat.{mul-add-lt}
+use Rattle.std.proofs.Math.Nat.{mul_comm}
 use Rattle.tl_definitions.specs.declared.Corner.{Corner}
-use Rattle.tl_definitions.specs.Lattice.{corner_eq, is_corner, Side}
+use Rattle.tl_definitions.specs.declared.rings.Dart.{Dart}
+use Rattle.tl_definitions.specs.Lattice.{corner, corner_eq, corner_lt, is_corner, Side}
 use Rattle.tl_definitions.specs.Region.{Region, corner_places, boundary}
 use Rattle.tl_definitions.specs.Accepted.{IsPlaced, is_pinch, circuit_corners, IsCircuit}
-use Rattle.tl_definitions.specs.Boundary.{side_from, is_boundary_corner, IsClosedWalk}
-use Rattle.tl_lists.proofs.Members.{In, In-any_of}
-use Rattle.tl_definitions.proofs.CornerPlaces.{In-corner_places}
+use Rattle.tl_definitions.specs.Darts.{back, darts, leaves}
+use Rattle.tl_definitions.specs.Boundary.{is_boundary_corner, IsClosedWalk, side_from}
+use Rattle.tl_lists.proofs.Members.{In, In-filter, In-filter_parts, In-map_parts}
+use Rattle.tl_lists.proofs.Searches.{find-In}
+use Rattle.tl_lists.proofs.Orders.{later, linked-tail}
+use Rattle.tl_lists.proofs.Distinct.{Distinct, Distinct-from, Distinct-filter, without, In-without, length-without}
+use Rattle.tl_lists.proofs.Positions.{position-missing, position-some, position-within}
+use Rattle.tl_lists.specs.Lists.{linked}
+use Rattle.tl_definitions.proofs.CornerPlaces.{corner_places-linked}
 use Rattle.tl_definitions.proofs.BoundarySides.{boundary-corners}
-use Rattle.tl_lists.proofs.Searches.{find-In, find-none, none-find, find-same}
-use Rattle.tl_definitions.proofs.Walks.{corner-In, In-corner, map-push, IsWalk, walk-start, walk-more, walk-closes}
-use Rattle.tl_definitions.proofs.Circuits.{boundary-within, boundary-places, no_pinch-sides, from-boundary, boundary-from, IsFirstBoundaryCorner, PassesAll, closed-circuit, circuit-passes, no_corner-circuit}
-use Rattle.tl_definitions.proofs.Corners.{corner_eq-same, corner_eq-refl}
-use Rattle.tl_grid.specs.declared.corner_marks.CornerMarks.{CornerMarks}
-use Rattle.tl_grid.specs.CornerMarks.{is_marked, AreMarked}
-use Rattle.tl_grid.proofs.MarkLemmas.{marks-more}
+use Rattle.tl_definitions.proofs.NextCorner.{exit-from}
+use Rattle.tl_definitions.proofs.Walks.{corner-In, In-corner, map-push, IsWalk, walk-start, walk-more, walk-closes, closed-sides}
+use Rattle.tl_definitions.proofs.Circuits.{boundary-within, boundary-places, no_pinch-sides, from-boundary, boundary-from, IsFirstBoundaryCorner, closed-circuit, circuit-passes}
+use Rattle.tl_definitions.proofs.Corners.{corner_eq-same, corner_eq-refl, corner_lt-irreflexive, corner_lt-transitive, same_place}
+use Rattle.tl_grid.specs.declared.walk.BoundaryStep.{BoundaryStep}
+use Rattle.tl_grid.specs.declared.patterns.TheConstants.{NO_EXIT}
+use Rattle.tl_grid.specs.Patterns.{exit_of}
+use Rattle.tl_grid.specs.Survey.{exit_left, AreExitsLeft}
+use Rattle.tl_grid.specs.Sides.{dart_by, side_by}
+use Rattle.tl_grid.proofs.GridLemmas.{or_false}
+use Rattle.tl_grid.proofs.SurveyLemmas.{exit-boundary}
 
 abbrev pub HasNoPinch : Region → Type 0
 HasNoPinch R = list_any (is_pinch R) (corner_places R) ≡ false
-
--- a corner place is none
-pub no_pinch-at : (R : Region) (v : Corner) → HasNoPinch R → is_corner R.kind v ≡ true → v.r < R.rows + 1 → v.x < R.columns + 2 → is_pinch R v ≡ false
-no_pinch-at R v free c h k = go (is_pinch R v) refl
-  where
-    go : (t : Bool) → is_pinch R v ≡ t → is_pinch R v ≡ false
-    go true e = cc (sym free, In-any_of (is_pinch R) v (corner_places R) (In-corner_places R v c h k) e)
-    go false e = e
 
 -- what holds of a corner that the walk has come to
 pub record IsPassable (R : Region) (v : Corner) : Type 0 where
@@ -36,7 +45,7 @@ pub record IsPassable (R : Region) (v : Corner) : Type 0 where
   pub column : v.x < R.columns + 2
   pub corner : is_corner R.kind v ≡ true
   pub no_pinch : is_pinch R v ≡ false
-  pub side : (s : Side) × In s (boundary R) × (s.from ≡ v)
+  pub boundary : is_boundary_corner R v ≡ true
 
 pub passable : (R : Region) (start v : Corner) (walk : List Side) → IsPlaced R → HasNoPinch R → IsWalk R start v walk → IsPassable R v
 passable R start v walk placed free w =
@@ -47,108 +56,181 @@ passable R start v walk placed free w =
       column = p.1;
       corner = (boundary-corners R s i).0;
       no_pinch = (no_pinch-sides R placed free s i).0;
-      side = (s, i, refl);
+      boundary = from-boundary R s i;
     })
 
--- a side leaves it
-pub leaves-there : (R : Region) (v : Corner) → IsPassable R v → None ≡ side_from R v → ⊥
-leaves-there R v p e =
-    let (s, i, same) = p.side in
-    find-none (λ t. corner_eq t.from v) (boundary R) (sym e) s i (subst (λ z. corner_eq s.from z ≡ true) same (corner_eq-refl s.from))
+-- ---- exits
 
--- the walk and the marks so far
-abbrev pub IsMarkedWalk : Region → Corner → Corner → CornerMarks → Type 0
-IsMarkedWalk R start v m = (walk : List Side) × IsWalk R start v walk × AreMarked R m (circuit_corners walk)
+pub exit-place : (R : Region) (passed : List Corner) (left : List ℕ) (v : Corner) → AreExitsLeft R passed left → v.r < R.rows + 1 → v.x < R.columns + 2
+    → v.r * (R.columns + 2) + v.x < length left
+exit-place R passed left v a h k =
+    omega (arith, mul-add-lt v.r (R.columns + 2) v.x (R.rows + 1) h k, a.size, mul_comm (R.columns + 2) (R.rows + 1))
 
-pub marked-start : (R : Region) (v : Corner) (m : CornerMarks) → is_boundary_corner R v ≡ true → AreMarked R m [] → IsMarkedWalk R v v m
-marked-start R v m e a =
+-- one corner more is passed
+exits-more : (R : Region) (passed : List Corner) (left after : List ℕ) (v : Corner) → AreExitsLeft R passed left → v.r < R.rows + 1 → v.x < R.columns + 2
+    → after ≡ slice_set left (v.r * (R.columns + 2) + v.x) NO_EXIT → AreExitsLeft R (passed ++ v ∷ []) after
+exits-more R passed left after v a h k e = record {
+  size = ap length e ∙ length-set left (v.r * (R.columns + 2) + v.x) NO_EXIT ∙ a.size;
+  at = λ u i j. ap (λ (l : List ℕ). get_or l (place u) 0) e ∙ at u i j (cases_eq (place u) (place v)) ∙ sym (pushed u);
+}
+  where
+    place : Corner → ℕ
+    place u = u.r * (R.columns + 2) + u.x
+
+    other : Corner → Bool → ℕ
+    other u t = cond (is_corner R.kind u) (cond t NO_EXIT (exit_of R u)) NO_EXIT
+
+    pushed : (u : Corner) → exit_left R (passed ++ v ∷ []) u ≡ other u (list_any (corner_eq u) passed || (corner_eq u v || false))
+    pushed u = ap (other u) (list_any-append (corner_eq u) passed (v ∷ []))
+
+    passed_now : (u : Corner) → corner_eq u v ≡ true → other u (list_any (corner_eq u) passed || (corner_eq u v || false)) ≡ NO_EXIT
+    passed_now u t = go (is_corner R.kind u) (list_any (corner_eq u) passed)
+      where
+        go : (c s : Bool) → cond c (cond (s || (corner_eq u v || false)) NO_EXIT (exit_of R u)) NO_EXIT ≡ NO_EXIT
+        go true true = refl
+        go true false = rw (t) refl
+        go false s = refl
+
+    at : (u : Corner) → u.r < R.rows + 1 → u.x < R.columns + 2 → (place u ≡ place v) ⊎ (place u ≡ place v → ⊥)
+        → get_or (slice_set left (place v) NO_EXIT) (place u) 0 ≡ other u (list_any (corner_eq u) passed || (corner_eq u v || false))
+    at u i j (inl same) =
+        let is : u ≡ v = same_place u v (R.columns + 2) j k same in
+        ap (λ (n : ℕ). get_or (slice_set left (place v) NO_EXIT) n 0) same ∙ get_or-set_same left (place v) NO_EXIT 0 (exit-place R passed left v a h k)
+        ∙ sym (passed_now u (ap (corner_eq u) (sym is) ∙ corner_eq-refl u))
+    at u i j (inr differ) =
+        let no : corner_eq u v ≡ false = false_from_ne_true _ (λ t. differ (ap place (corner_eq-same u v t))) in
+        get_or-set_other left (place v) (place u) NO_EXIT 0 differ ∙ a.at u i j
+        ∙ ap (other u) (sym (ap (λ (t : Bool). list_any (corner_eq u) passed || (t || false)) no ∙ or_false (list_any (corner_eq u) passed)))
+
+-- an exit that is taken is one fewer
+pub exits-fewer : (left : List ℕ) (i : ℕ) → i < length left → get_or left i 0 ≢ NO_EXIT
+    → count_by (λ n. not (n == NO_EXIT)) (slice_set left i NO_EXIT) < count_by (λ n. not (n == NO_EXIT)) left
+exits-fewer left i h e =
+    let sum = sum_by-set (λ n. cond (not (n == NO_EXIT)) 1 0) left i NO_EXIT 0 h in
+    let one : ◌≡◌ {A = ℕ} (cond (not (get_or left i 0 == NO_EXIT)) 1 0) 1 = ap (λ (t : Bool). cond (not t) 1 0) (ne_eqb _ _ e) in
+    omega (arith, sum, one)
+
+-- the number of the first dart by which the boundary leaves the corner names that dart
+exit-dart : (R : Region) (v : Corner) → exit_of R v ≢ NO_EXIT → find (leaves R v) (darts R.kind) ≡ Some (dart_by R.kind (exit_of R v))
+exit-dart R v h = go (cases_Bool (list_any (leaves R v) (darts R.kind)))
+  where
+    none : Dart
+    none = record { left = back 0 0; right = back 0 0 }
+
+    go : (list_any (leaves R v) (darts R.kind) ≡ true) ⊎ (list_any (leaves R v) (darts R.kind) ≡ false) → find (leaves R v) (darts R.kind) ≡ Some (dart_by R.kind (exit_of R v))
+    go (inr e) = absurd (h (ap (λ (o : Option ℕ). unwrap_or o NO_EXIT) (position-missing (leaves R v) (darts R.kind) e)))
+    go (inl e) =
+        let number : exit_of R v ≡ position_or_len (leaves R v) (darts R.kind) =
+        ap (λ (o : Option ℕ). unwrap_or o NO_EXIT) (position-some (leaves R v) (darts R.kind) e) in
+        find_at (leaves R v) (darts R.kind)
+        ∙ slice_get-get_or (darts R.kind) (position_or_len (leaves R v) (darts R.kind)) none (position-within (leaves R v) (darts R.kind) e)
+        ∙ ap (λ (n : ℕ). Some (dart_by R.kind n)) (sym number)
+
+-- ---- the walk and the exits so far
+
+pub record IsWalkLeft (R : Region) (start v : Corner) (steps : List BoundaryStep) (left : List ℕ) : Type 0 where
+  pub walk : IsWalk R start v (map (side_by R.kind) steps)
+  pub exits : AreExitsLeft R (circuit_corners (map (side_by R.kind) steps)) left
+
+pub left-start : (R : Region) (v : Corner) (left : List ℕ) → is_boundary_corner R v ≡ true → AreExitsLeft R [] left → IsWalkLeft R v v [] left
+left-start R v left e a =
     let (s, i, same) = boundary-from R v e in
-    ([], subst (λ z. IsWalk R z z []) same (walk-start R s i), a)
+    record { walk = subst (λ z. IsWalk R z z []) same (walk-start R s i); exits = a }
 
-pub marked-more : (R : Region) (start v : Corner) (m n : CornerMarks) (s : Side) → IsPassable R v → IsMarkedWalk R start v m → is_marked m v ≡ false
-    → Some s ≡ side_from R v → n.flags.items ≡ slice_set m.flags.items (v.r * m.width + v.x) true → n.width ≡ m.width → IsMarkedWalk R start s.to n
-marked-more R start v m n s p (walk, w, a) unmarked is flags width =
-    let found = find-In (λ t. corner_eq t.from v) (boundary R) s (sym is) in
-    let here : s.from ≡ v = corner_eq-same s.from v found.1 in (
-      walk ++ s ∷ [],
-      walk-more R start s walk found.0 (subst (λ z. IsWalk R start z walk) (sym here) w) (λ j. new (subst (λ z. In z (circuit_corners walk)) here j)),
-      subst (AreMarked R n) (sym (map-push (λ (t : Side). t.from) walk s))
-          (subst (λ z. AreMarked R n (circuit_corners walk ++ z ∷ [])) (sym here) (marks-more R m n v (circuit_corners walk) a p.row p.column flags width)),
-    )
-  where
-    new : In v (circuit_corners walk) → ⊥
-    new j = cc (sym unmarked, a.is_set v p.row p.column, In-corner v (circuit_corners walk) j)
+module _ (R : Region) (start v : Corner) (steps : List BoundaryStep) (left : List ℕ) (placed : IsPlaced R) (free : HasNoPinch R) (w : IsWalkLeft R start v steps left) where
+  abbrev pub walked : List Side
+  walked = map (side_by R.kind) steps
 
--- the walk that has come back to its start, and its marks
-abbrev pub MarksClosedWalk : Region → Corner → CornerMarks → Type 0
-MarksClosedWalk R start m = (walk : List Side) × IsClosedWalk R start walk × AreMarked R m (circuit_corners walk)
+  pub left-here : IsPassable R v
+  left-here = passable R start v walked placed free w.walk
 
-pub marked-closed : (R : Region) (start v : Corner) (m : CornerMarks) → IsPlaced R → HasNoPinch R → IsPassable R v → IsMarkedWalk R start v m → is_marked m v ≡ true → MarksClosedWalk R start m
-marked-closed R start v m placed free p (walk, w, a) marked =
-    (walk, walk-closes R start v walk (no_pinch-sides R placed free) w (corner-In v (circuit_corners walk) (sym (a.is_set v p.row p.column) ∙ marked)), a)
+  -- what is left of the exit is the corner's, if it hasn't been passed
+  exit-here : (t : Bool) → list_any (corner_eq v) (circuit_corners walked) ≡ t → get_or left (v.r * (R.columns + 2) + v.x) 0 ≡ cond t NO_EXIT (exit_of R v)
+  exit-here t e = w.exits.at v left-here.row left-here.column ∙ rw (left-here.corner, e) refl
 
--- ---- what the scans tell
+  pub left-more : (step : BoundaryStep) (after : List ℕ) → step.r ≡ v.r → step.x ≡ v.x → step.dart ≡ get_or left (v.r * (R.columns + 2) + v.x) 0 → step.dart ≢ NO_EXIT
+      → after ≡ slice_set left (v.r * (R.columns + 2) + v.x) NO_EXIT → IsWalkLeft R start (side_by R.kind step).to (steps ++ step ∷ []) after
+  left-more step after row column is some e = go (cases_Bool (list_any (corner_eq v) (circuit_corners walked)))
+    where
+      go : (list_any (corner_eq v) (circuit_corners walked) ≡ true) ⊎ (list_any (corner_eq v) (circuit_corners walked) ≡ false)
+          → IsWalkLeft R start (side_by R.kind step).to (steps ++ step ∷ []) after
+      go (inl t) = absurd (some (is ∙ exit-here true t))
+      go (inr t) =
+          let dart : step.dart ≡ exit_of R v = is ∙ exit-here false t in
+          let from : corner step.r step.x ≡ v = λ i. corner (row i) (column i) in
+          let found : find (leaves R v) (darts R.kind) ≡ Some (dart_by R.kind step.dart) =
+          exit-dart R v (λ n. some (dart ∙ n)) ∙ ap (λ (n : ℕ). Some (dart_by R.kind n)) (sym dart) in
+          let side : Some (side_by R.kind step) ≡ side_from R v =
+          (λ i. Some (side_by R.kind (record { r = row i; x = column i; dart = step.dart })))
+          ∙ exit-from R v (dart_by R.kind step.dart) left-here.corner left-here.no_pinch found in
+          let q = find-In (λ s. corner_eq s.from v) (boundary R) (side_by R.kind step) (sym side) in
+          record {
+            walk =
+                subst (IsWalk R start (side_by R.kind step).to) (sym (map-push (side_by R.kind) steps step))
+                (walk-more R start (side_by R.kind step) walked q.0 (subst (λ z. IsWalk R start z walked) (sym from) w.walk)
+                (λ i. cc (t, In-corner v (circuit_corners walked) (subst (λ z. In z (circuit_corners walked)) from i))));
+            exits =
+                subst (λ l. AreExitsLeft R l after) (sym (ap circuit_corners (map-push (side_by R.kind) steps step)
+                ∙ map-push (λ (s : Side). s.from) walked (side_by R.kind step) ∙ ap (λ (u : Corner). circuit_corners walked ++ u ∷ []) from))
+                (exits-more R (circuit_corners walked) left after v w.exits left-here.row left-here.column e);
+          }
 
-abbrev pub is_open : Region → CornerMarks → Corner → Bool
-is_open R m v = is_boundary_corner R v && not (is_marked m v)
+  pub left-closed : get_or left (v.r * (R.columns + 2) + v.x) 0 ≡ NO_EXIT → IsClosedWalk R start walked
+  left-closed e = go (cases_Bool (list_any (corner_eq v) (circuit_corners walked)))
+    where
+      go : (list_any (corner_eq v) (circuit_corners walked) ≡ true) ⊎ (list_any (corner_eq v) (circuit_corners walked) ≡ false) → IsClosedWalk R start walked
+      go (inl t) = walk-closes R start v walked (no_pinch-sides R placed free) w.walk (corner-In v (circuit_corners walked) t)
+      go (inr t) =
+          let none : exit_of R v ≡ NO_EXIT = sym (exit-here false t) ∙ e in
+          cc (exit-boundary R v left-here.corner, left-here.boundary, none)
 
--- where no corner is marked, the first boundary corner without a mark is the first of all
-pub first-open : (R : Region) (m : CornerMarks) (o : Option Corner) → ((v : Corner) → is_marked m v ≡ false) → o ≡ find (is_open R m) (corner_places R)
-    → find (is_boundary_corner R) (corner_places R) ≡ o
-first-open R m o none e =
-    find-same (is_boundary_corner R) (is_open R m) (corner_places R)
-    (λ v i. sym (ap (λ (b : Bool). is_boundary_corner R v && not b) (none v) ∙ and_true (is_boundary_corner R v))) ∙ sym e
-  where
-    and_true : (b : Bool) → (b && true) ≡ b
-    and_true true = refl
-    and_true false = refl
+-- ---- one circuit
 
--- The boundary is one circuit exactly where the walk has marked every boundary corner.
-pub one-circuit : (R : Region) (start : Corner) (m : CornerMarks) → IsPlaced R → HasNoPinch R → IsFirstBoundaryCorner R start
-    → MarksClosedWalk R start m
-    → (find (is_open R m) (corner_places R) ≡ None → (walk : List Side) × IsCircuit R walk)
-    × ((walk : List Side) × IsCircuit R walk → find (is_open R m) (corner_places R) ≡ None)
-one-circuit R start m placed free first (walk, w, a) = (there, back)
-  where
-    all_marked : find (is_open R m) (corner_places R) ≡ None → PassesAll R walk
-    all_marked e s i = go (is_marked m s.from) refl
-      where
-        within : (s.from.r < R.rows + 1) × (s.from.x < R.columns + 2) × (s.to.r < R.rows + 1) × (s.to.x < R.columns + 2)
-        within = boundary-within R s placed i
+linked-Distinct : (vs : List Corner) → linked corner_lt vs ≡ true → Distinct vs
+linked-Distinct [] e = tt
+linked-Distinct (v ∷ vs) e = (
+  λ i. corner_lt-irreflexive v (later corner_lt corner_lt-irreflexive corner_lt-transitive v vs v e i),
+  linked-Distinct vs (linked-tail corner_lt corner_lt-irreflexive corner_lt-transitive v vs e),
+)
 
-        go : (t : Bool) → is_marked m s.from ≡ t → In s.from (circuit_corners walk)
-        go true h = corner-In s.from (circuit_corners walk) (sym (a.is_set s.from within.0 within.1) ∙ h)
-        go false h =
-            absurd (find-none (is_open R m) (corner_places R) e s.from (boundary-places R s placed i).0
-            (and_from _ _ (from-boundary R s i) (ap not h)))
+-- The boundary is one circuit exactly where the walk has as many sides as there are boundary corners.
+module _ (R : Region) (start : Corner) (walk : List Side) (placed : IsPlaced R) (free : HasNoPinch R) (first : IsFirstBoundaryCorner R start) (w : IsClosedWalk R start walk) where
+  abbrev pub all : List Corner
+  all = filter (is_boundary_corner R) (corner_places R)
 
-    there : find (is_open R m) (corner_places R) ≡ None → (walk : List Side) × IsCircuit R walk
-    there e = (walk, closed-circuit R start walk placed (no_pinch-sides R placed free) first w (all_marked e))
+  abbrev corners : List Corner
+  corners = circuit_corners walk
 
-    back : (walk : List Side) × IsCircuit R walk → find (is_open R m) (corner_places R) ≡ None
-    back (circuit, c) = none-find (is_open R m) (corner_places R) (λ v i e. shut v (and_parts (is_boundary_corner R v) (not (is_marked m v)) e))
-      where
-        shut : (v : Corner) → (is_boundary_corner R v ≡ true) × (not (is_marked m v) ≡ true) → ⊥
-        shut v p =
-            let (s, i, same) = boundary-from R v p.0 in
-            let within = boundary-within R s placed i in
-            let marked : is_marked m s.from ≡ true =
-            a.is_set s.from within.0 within.1 ∙ In-corner s.from (circuit_corners walk) (circuit-passes R start walk circuit placed (no_pinch-sides R placed free) first w c s i) in
-            cc (p.1, ap (is_marked m) same, marked)
+  within : (v : Corner) → In v corners → In v all
+  within v i =
+      let (s, j, e) = In-map_parts (λ (s : Side). s.from) v walk i in
+      let b = closed-sides R start walk w s j in
+      subst (λ u. In u all) (sym e) (In-filter (is_boundary_corner R) s.from (corner_places R) (from-boundary R s b) (boundary-places R s placed b).0)
 
--- and without a boundary corner it is the empty one
-pub no-circuit : (R : Region) (m : CornerMarks) → IsPlaced R → ((v : Corner) → is_marked m v ≡ false) → None ≡ find (is_open R m) (corner_places R)
-    → (walk : List Side) × IsCircuit R walk
-no-circuit R m placed none e = ([], no_corner-circuit R placed (first-open R m None none e))
+  fewer : length (without corner_eq corners all) + length corners ≤ length all
+  fewer = length-without corner_eq corner_eq-same corner_eq-refl corners all (Distinct-from corner_eq corner_eq-refl corners w.once) within
 
--- the answer of the last scan
-pub none-tells : (o p : Option Corner) (b : Bool) → is_some o ≡ not b → o ≡ p → b ≡ true → p ≡ None
-none-tells None p b e f h = sym f
-none-tells (Some v) p b e f h = cc (e, ap not h)
+  count : length corners ≡ length walk
+  count = length-map walk (λ (s : Side). s.from)
 
-pub tells-none : (o p : Option Corner) (b : Bool) → is_some o ≡ not b → o ≡ p → p ≡ None → b ≡ true
-tells-none o p true e f h = refl
-tells-none o p false e f h = cc (e, ap is_some (f ∙ h))
+  pub full-circuit : length walk ≡ length all → IsCircuit R walk
+  full-circuit e =
+      closed-circuit R start walk placed (no_pinch-sides R placed free) first w
+      (λ s i. passed s.from (In-without corner_eq corner_eq-same corner_eq-refl s.from corners all
+      (In-filter (is_boundary_corner R) s.from (corner_places R) (from-boundary R s i) (boundary-places R s placed i).0)) (without corner_eq corners all) refl)
+    where
+      passed : (v : Corner) → In v (without corner_eq corners all) ⊎ In v corners → (rest : List Corner) → without corner_eq corners all ≡ rest → In v corners
+      passed v (inr i) rest f = i
+      passed v (inl i) [] f = absurd (subst (In v) f i)
+      passed v (inl i) (u ∷ us) f = absurd (omega (arith, fewer, count, e, ap length f))
 
-pub open-boundary : (R : Region) (m : CornerMarks) (v : Corner) → Some v ≡ find (is_open R m) (corner_places R) → is_boundary_corner R v ≡ true
-open-boundary R m v e = (and_parts (is_boundary_corner R v) (not (is_marked m v)) (find-In (is_open R m) (corner_places R) v (sym e)).1).0
+  pub circuit-full : (other : List Side) → IsCircuit R other → length walk ≡ length all
+  circuit-full other c =
+      let back = length-without corner_eq corner_eq-same corner_eq-refl all corners
+      (Distinct-filter (is_boundary_corner R) (corner_places R) (linked-Distinct (corner_places R) (corner_places-linked R))) passes in
+      omega (arith, fewer, back, count)
+    where
+      passes : (v : Corner) → In v all → In v corners
+      passes v i =
+          let (s, j, e) = boundary-from R v (In-filter_parts (is_boundary_corner R) v (corner_places R) i).1 in
+          subst (λ u. In u corners) e (circuit-passes R start walk other placed (no_pinch-sides R placed free) first w c s j)

@@ -1,5 +1,5 @@
 pub mod Grid
-pub mod CornerMarks
 pub mod Flood
-pub mod Inner
+pub mod Patterns
+pub mod Survey
 pub mod Sides

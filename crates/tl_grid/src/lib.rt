@@ -2,24 +2,17 @@
 //! Euler count and its inner corners.
 #![tactic(auto)]
 
-mod circuit;
-mod corner_marks;
-mod euler;
-mod flags;
 mod grid;
 mod inner;
 mod parts;
-mod pinch;
+mod patterns;
 mod rings;
+mod survey;
+mod walk;
 
-pub use circuit::{BoundarySide, first_boundary_corner, has_one_circuit, side_out};
-pub use euler::has_euler_one;
-pub use flags::flags_of;
 pub use grid::Grid;
-pub use inner::{Inner, inner_of};
+pub use inner::{inner_corner, is_inner, number_of};
 pub use parts::first_parted;
-pub use pinch::first_pinch;
 pub use rings::is_step;
-
-#[cfg(test)]
-mod rule_tests;
+pub use survey::Survey;
+pub use walk::{BoundarySide, BoundaryStep, one_circuit};

@@ -1,10 +1,10 @@
 //! The cells round a corner, and the edges between them.
 
-ghost use Rattle.std.specs.Prelude.{◌≡◌, ◌&&◌, count_by, find};
+ghost use Rattle.std.specs.Prelude.{◌≡◌};
 ghost use Rattle.std.specs.List.{list_any};
 ghost use Rattle.tl_definitions.specs.Lattice.{is_corner as is_corner_of_kind, cell_back};
 ghost use Rattle.tl_definitions.specs.Region.{has_at, is_step as is_step_of};
-ghost use Rattle.tl_definitions.specs.Darts.{darts as darts_of, left_cell, right_cell, enters as enters_by, leaves as leaves_by, is_outward as is_outward_of, is_edge_of, leads_to as leads_to_of, is_step_by as is_step_by_of};
+ghost use Rattle.tl_definitions.specs.Darts.{darts as darts_of, is_outward as is_outward_of, is_edge_of, leads_to as leads_to_of, is_step_by as is_step_by_of};
 
 use crate::grid::Grid;
 use tl_definitions::{Back, Dart};
@@ -108,7 +108,7 @@ pub fn is_corner(kind: Kind, corner: Corner) -> bool
 }
 
 // Whether the cell at this place of the corner's ring is in the region.
-fn is_inside(grid: &Grid, corner: Corner, place: Back) -> bool
+pub(crate) fn is_inside(grid: &Grid, corner: Corner, place: Back) -> bool
     ensures { result ≡ has_at grid.now (cell_back corner place.rows place.columns) }
 {
     if corner.r < place.rows || corner.x < place.columns {
@@ -118,49 +118,6 @@ fn is_inside(grid: &Grid, corner: Corner, place: Back) -> bool
         r: corner.r - place.rows,
         c: corner.x - place.columns,
     })
-}
-
-// Whether the boundary comes to the corner along the dart, with the region on its left.
-fn enters(grid: &Grid, corner: Corner, dart: Dart) -> bool
-    ensures { result ≡ enters_by grid.now corner dart }
-{
-    !is_inside(grid, corner, dart.left) && is_inside(grid, corner, dart.right)
-}
-
-/// Along how many darts the boundary comes to the corner.
-pub fn entry_count(grid: &Grid, corner: Corner) -> usize
-    ensures { result ≡ count_by (enters_by grid.now corner) (darts_of grid.now.kind) }
-{
-    darts(grid.kind())
-        .iter()
-        .filter(|dart| enters(grid, corner, **dart))
-        .count()
-}
-
-// Whether the boundary leaves the corner along the dart, with the region on its left.
-fn leaves(grid: &Grid, corner: Corner, dart: Dart) -> bool
-    ensures { result ≡ leaves_by grid.now corner dart }
-{
-    is_inside(grid, corner, dart.left) && !is_inside(grid, corner, dart.right)
-}
-
-/// The first dart along which the boundary leaves the corner.
-pub fn first_exit(grid: &Grid, corner: Corner) -> Option<Dart>
-    ensures { result ≡ find (leaves_by grid.now corner) (darts_of grid.now.kind) }
-{
-    darts(grid.kind())
-        .iter()
-        .find(|dart| leaves(grid, corner, **dart))
-        .copied()
-}
-
-/// Whether a cell of the corner's ring is in the region.
-pub fn touches(grid: &Grid, corner: Corner) -> bool
-    ensures { result ≡ list_any (λ g. has_at grid.now (left_cell corner g)) (darts_of grid.now.kind) }
-{
-    darts(grid.kind())
-        .iter()
-        .any(|dart| is_inside(grid, corner, dart.left))
 }
 
 // Whether the dart is the edge of a directed step from the corner.
@@ -211,15 +168,4 @@ pub fn is_step(grid: &Grid, from: Corner, to: Corner) -> bool
     ensures { result ≡ is_step_of grid.now from to }
 {
     is_corner(grid.kind(), from) && is_step_by_some(grid, from, to)
-}
-
-/// How many directed steps along edges of the region go out from the corner.
-pub fn step_count(grid: &Grid, corner: Corner) -> usize
-    ensures { result ≡ count_by (λ g. is_outward_of corner g && is_edge_of grid.now corner g)
-        (darts_of grid.now.kind) }
-{
-    darts(grid.kind())
-        .iter()
-        .filter(|dart| is_outward(corner, **dart) && is_edge(grid, corner, **dart))
-        .count()
 }

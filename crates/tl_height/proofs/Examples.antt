@@ -11,8 +11,7 @@ use Rattle.tl_formats.specs.Drawing.{drawing}
 use Rattle.tl_definitions.specs.Heights.{height, AreHeights, AreLawful}
 use Rattle.tl_formats.proofs.Cases.{drawn, walk_of}
 use Rattle.tl_definitions.proofs.Decide.{one_part}
-use Rattle.tl_closing.proofs.Crossed.{same-heights}
-use Rattle.tl_closing.proofs.Heights.{heights-lawful}
+use Rattle.tl_closing.proofs.Stated.{same-heights, heights-lawful}
 use Rattle.tl_height.proofs.HeightsBy.{heights-by}
 use Rattle.tl_height.specs.declared.standing.Standing.TheVariants.{High, Low, No}
 use Rattle.tl_height.specs.HeightFunction.{falls_between}

@@ -21,8 +21,7 @@ use Rattle.tl_lists.proofs.Tests.{same_test}
 use Rattle.tl_lists.proofs.Searches.{find-In, find-none_any}
 use Rattle.tl_lists.proofs.Positions.{position-some, position-missing}
 use Rattle.tl_definitions.proofs.Corners.{corner_eq-same}
-use Rattle.tl_closing.proofs.Filling.{leads_right, upper_cell, lower_cell, left_corner, climb_between, rise_from_left, FromLeft, fill-inner, StandsAt, fill-place}
-use Rattle.tl_closing.proofs.Heights.{has-heights}
+use Rattle.tl_closing.proofs.Stated.{leads_right, upper_cell, lower_cell, left_corner, climb_between, rise_from_left, FromLeft, fill-inner, StandsAt, fill-place, has-heights}
 
 eqb-turned : (a b : ℕ) → (a == b) ≡ (b == a)
 eqb-turned a b = same_test (a == b) (b == a) (λ e. eq-eqb b a (sym (eqb-true a b e))) (λ e. eq-eqb a b (sym (eqb-true b a e)))

@@ -10,9 +10,7 @@ use Rattle.tl_definitions.specs.Accepted.{Accepted, IsCircuit, circuit_corners}
 use Rattle.tl_definitions.specs.Heights.{height, climb, AreHeights, AreHeightsOf}
 use Rattle.tl_lists.proofs.Members.{In, Each, Each-at}
 use Rattle.tl_closing.specs.Closing.{steps_round}
-use Rattle.tl_closing.proofs.Edges.{Step, edges, In-edges, is_step-parts}
-use Rattle.tl_closing.proofs.Numbers.{numbers_of, numbers_of-heights}
-use Rattle.tl_closing.proofs.Heights.{Start, start-of}
+use Rattle.tl_closing.proofs.Stated.{Step, edges, In-edges, is_step-parts, numbers_of, numbers_of-heights, Start, start-of}
 
 pub heights-by : (R : Region) (accepted : Accepted R) (walk : List Side) (v : Corner) → IsCircuit R walk → slice_get (circuit_corners walk) 0 ≡ Some v
     → (A : List Tile) (numbers : List ℤ) → numbers_of R (height R numbers) ≡ numbers → height R numbers v ≡ pos 0

@@ -1,5 +1,5 @@
 -- An inner corner and the ends of the steps from and to it, as corners of the region.
-use Rattle.std.proofs.Common.{◌≡◌, ◌+◌, ◌^◌, ◌<◌, ◌≤◌, inl, inr, true, List, [], ◌∷◌, Option, Some, None, refl, ◌∙◌, ap, subst, arith}
+use Rattle.std.proofs.Common.{◌≡◌, ◌+◌, ◌<◌, ◌≤◌, inl, inr, true, List, [], ◌∷◌, Option, Some, None, refl, ◌∙◌, ap, subst, arith}
 use Rattle.std.specs.Prelude.{All, IfSome, IsTrue}
 use Rattle.std.proofs.lemmas.List.Elements.{All-nil, All-cons}
 use Rattle.tl_definitions.specs.declared.Corner.{Corner}
@@ -9,9 +9,7 @@ use Rattle.tl_lists.specs.Lists.{present}
 use Rattle.tl_lists.proofs.Members.{In}
 use Rattle.tl_lattice.specs.Places.{padded}
 use Rattle.tl_grid.specs.Grid.{IsGrid}
-use Rattle.tl_closing.proofs.Numbers.{corner-within}
-use Rattle.tl_closing.proofs.Edges.{step-ends}
-use Rattle.tl_closing.proofs.InnerSteps.{inner-step_out, inner-step_in, inner-of_region}
+use Rattle.tl_closing.proofs.Stated.{corner-within, step-ends, inner-step_out, inner-step_in, inner-of_region}
 use Rattle.tl_height.specs.Standing.{AreCornersOf}
 use Rattle.tl_height.proofs.PresentLemmas.{present-padded}
 use Rattle.tl_definitions.specs.declared.TheConstants.{COORDINATE_LIMIT, SIDE_LIMIT}

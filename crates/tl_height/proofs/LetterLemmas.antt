@@ -19,12 +19,7 @@ use Rattle.tl_lists.proofs.Searches.{find-only, none-find}
 use Rattle.tl_formats.proofs.Drawings.{letter-named}
 use Rattle.tl_definitions.proofs.Tilings.{TilingParts, tiling-parts}
 use Rattle.tl_closing.specs.Closing.{step_along, steps_round}
-use Rattle.tl_closing.proofs.Sides.{directed, SameStep, same_step}
-use Rattle.tl_closing.proofs.Centres.{IsCentre, round-centre, cell-one, cell-two}
-use Rattle.tl_closing.proofs.Edges.{Step, has-In, In-has, round-step, is_step-from, corner_of-from}
-use Rattle.tl_closing.proofs.Crossed.{is_crossed, crossed-parts, IsAcross, IsCrossing, one-crossed, covers-cases, covers-from}
-use Rattle.tl_closing.proofs.Ring.{up_sides, down_sides, among-up, among-down}
-use Rattle.tl_closing.proofs.Near.{right-is, left-is, above-is, below-is}
+use Rattle.tl_closing.proofs.Stated.{directed, SameStep, same_step, IsCentre, round-centre, cell-one, cell-two, Step, has-In, In-has, round-step, is_step-from, corner_of-from, is_crossed, crossed-parts, IsAcross, IsCrossing, one-crossed, covers-cases, covers-from, up_sides, down_sides, among-up, among-down, right-is, left-is, above-is, below-is}
 use Rattle.tl_height.specs.declared.sides.Ends.{Ends}
 use Rattle.tl_height.specs.HeightFunction.{falls_between}
 use Rattle.tl_height.specs.Letters.{ends_of}

@@ -5,6 +5,7 @@ pub mod StandingLemmas
 pub mod LetterLemmas
 pub mod RowLemmas
 mod FillLemmas
+mod OffCircuit
 pub mod Examples
 pub mod HeightsBy
 mod LozengeExamples

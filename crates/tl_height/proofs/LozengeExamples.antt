@@ -10,7 +10,7 @@ use Rattle.tl_definitions.specs.Accepted.{Accepted, IsCircuit}
 use Rattle.tl_definitions.specs.Heights.{AreHeights, AreLawful}
 use Rattle.tl_formats.proofs.Cases.{drawn, walk_of}
 use Rattle.tl_definitions.proofs.Decide.{one_part}
-use Rattle.tl_closing.proofs.Heights.{heights-lawful}
+use Rattle.tl_closing.proofs.Stated.{heights-lawful}
 use Rattle.tl_height.proofs.HeightsBy.{heights-by}
 
 abbrev lozenge : Region

@@ -10,9 +10,7 @@ use Rattle.tl_lists.specs.Lists.{present}
 use Rattle.tl_definitions.specs.Tiling.{is_tiling}
 use Rattle.tl_definitions.specs.Heights.{height, AreHeights}
 use Rattle.tl_lists.proofs.Members.{In}
-use Rattle.tl_closing.proofs.Crossed.{is_crossed}
-use Rattle.tl_closing.proofs.Standing.{standing-crossed}
-use Rattle.tl_closing.proofs.InnerSteps.{inner-step_out, inner-step_in}
+use Rattle.tl_closing.proofs.Stated.{is_crossed, standing-crossed, inner-step_out, inner-step_in}
 use Rattle.tl_height.specs.declared.standing.Standing.{Standing}
 use Rattle.tl_height.specs.declared.standing.Standing.TheVariants.{High, Low, No}
 use Rattle.tl_height.specs.HeightFunction.{falls_between}

@@ -1,9 +1,10 @@
 //! The heights of a tiling, corner by corner in raster order.
 
-ghost use Rattle.std.specs.Prelude.{◌≡◌, ◌+◌, ◌-◌, ◌*◌, ◌<◌, ◌≤◌, List, ℤ, length, take, pos, negsuc, ◌+ℤ◌, ◌≤ℤ◌, IfOk, IsTrue};
-ghost use Rattle.tl_definitions.specs.Lattice.{corner as corner_of, cell_width as width_of};
+ghost use Rattle.std.specs.Prelude.{◌≡◌, ◌+◌, ◌-◌, ◌*◌, ◌<◌, ◌≤◌, List, ℤ, length, take, pos, negsuc, ◌+ℤ◌, ◌≤ℤ◌, IfOk, IsTrue, IsFalse};
+ghost use Rattle.std.specs.List.{list_any};
+ghost use Rattle.tl_definitions.specs.Lattice.{corner as corner_of, corner_eq, Side, cell_width as width_of};
 ghost use Rattle.tl_definitions.specs.Region.{is_inner};
-ghost use Rattle.tl_definitions.specs.Accepted.{Accepted, IsCircuit};
+ghost use Rattle.tl_definitions.specs.Accepted.{Accepted, IsPlaced, IsCircuit, circuit_corners};
 ghost use Rattle.tl_definitions.specs.Heights.{height as height_of, AreHeights, AreLawful};
 ghost use Rattle.tl_grid.specs.Grid.{IsGrid};
 
@@ -68,14 +69,31 @@ fn height_at(circuit: &Circuit, tiling: &Tiling, corner: Corner, before: &[i32])
         → result ≡ height_of tiling.now.region numbers corner }
 {
     let region = tiling.region();
-    if region.index_of(corner).is_some() {
+    if let Some(k) = circuit.place_of(corner) {
+        return circuit.prefix(k) as i32;
+    }
+    if is_inner_off(region, corner) {
         let width = cell_width(region.kind()) as usize;
         before[before.len() - width] + rise_from_left(tiling, corner)
     } else {
-        match circuit.place_of(corner) {
-            Some(k) => circuit.prefix(k) as i32,
-            None => 0,
-        }
+        0
+    }
+}
+
+// Whether a pair that isn't on the circuit is an inner corner. Where it is a corner, its whole ring is in the region or
+// no cell of it, and one cell tells.
+fn is_inner_off(region: &Region, corner: Corner) -> bool
+    requires { IsPlaced region.now }
+    ensures { (walk : List Side) → IsCircuit region.now walk
+        → IsFalse (list_any (corner_eq corner) (circuit_corners walk)) → result ≡ is_inner region.now corner }
+{
+    let cell = Cell {
+        r: corner.r,
+        c: corner.x,
+    };
+    match region.kind() {
+        Kind::Square => region.has(cell),
+        Kind::Triangle => corner.r % 2 != corner.x % 2 && region.has(cell),
     }
 }
 

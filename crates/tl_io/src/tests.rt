@@ -3,8 +3,8 @@
 ghost use Rattle.std.specs.Prelude.{◌≤◌};
 
 use crate::{
-    FreeGate, Gate, Gave, InFault, MemSink, MemSource, Sink, Source, StdSink, StdSource, Took,
-    read_all, write_all,
+    FreeGate, Gave, InFault, MemSink, MemSource, Sink, Source, StdSink, StdSource, Took, read_all,
+    write_all,
 };
 use std::alloc::{AllocError, Global};
 use std::test::Fail;
@@ -115,15 +115,6 @@ fn a_failed_write_leaves_what_was_taken(rt: HostRuntime) -> Result<(), AllocErro
         assert_eq!(rt; sink.held(), held, "write {fails}");
     }
     Ok(())
-}
-
-#[test]
-fn the_free_gate_lets_pass(rt: HostRuntime) {
-    let gate = FreeGate;
-    gate.pass(0, 0);
-    gate.posted(0, 0);
-    gate.hand(0, 1, 0);
-    assert_eq!(rt; gate, FreeGate);
 }
 
 fn crosses_threads<T: Send + Sync + Drop>(_value: T) {}

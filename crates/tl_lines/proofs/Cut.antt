@@ -1,14 +1,14 @@
 -- How the first line feed cuts an input.
-use Rattle.std.proofs.Common.{◌≡◌, ◌≢◌, ℕ, suc, Bool, true, false, ◌+◌, ◌-◌, ◌<◌, ◌≤◌, List, [], ◌∷◌, ◌++◌, length, take, drop, Some, None, refl, sym, ◌∙◌, ap, arith, add-one}
+use Rattle.std.proofs.Common.{◌≡◌, ◌≢◌, ℕ, Bool, true, false, ◌+◌, ◌-◌, ◌<◌, ◌≤◌, List, [], ◌∷◌, ◌++◌, length, take, drop, Some, None, sym, ◌∙◌, ap, arith, add-one}
 use Rattle.std.specs.Prelude.{slice_index, ◌==◌}
-use Rattle.std.specs.List.{concat, prefix_len}
+use Rattle.std.specs.List.{concat}
 use Rattle.std.proofs.Math.Seq.{take-nil, drop-length}
 use Rattle.std.proofs.lemmas.Bool.{eqb-true, eq-eqb}
 use Rattle.std.proofs.lemmas.List.{take_more, take_all, length-drop}
 use Rattle.memchr.specs.Find.{IsFirstByte, is_byte}
-use Rattle.tl_formats.specs.Input.{pieces, without_end, is_empty_line, open_section, further_section}
-use Rattle.tl_formats.proofs.Lines.{concat-pieces, pieces-cut, pieces-whole, open-line, open-empty_line, further-empty_line, without_end-last, without_end-other}
-use Rattle.tl_lines.specs.Lines.{IsFirstLine, after_line, after_empty_lines, section_at}
+use Rattle.tl_formats.specs.Input.{pieces, without_end, is_empty_line, open_section}
+use Rattle.tl_formats.proofs.Lines.{concat-pieces, pieces-cut, pieces-whole, open-line, open-empty_line, without_end-last, without_end-other}
+use Rattle.tl_lines.specs.Lines.{IsFirstLine, after_line, section_at}
 
 none_before : (s : List ℕ) (k : ℕ) → ((i : ℕ) → 0 ≤ i → i < k → ¬ (is_byte 10 (slice_index s i) ≡ true)) → (i : ℕ) → i < k → slice_index s i ≢ 10
 none_before s k f i h e = f i (omega arith) h (eq-eqb (slice_index s i) 10 e)
@@ -59,35 +59,7 @@ section-line s line rest b f e t =
     ap open_section f.first ∙ open-line f.piece (pieces rest) (empty_piece s line rest b f e ∙ t)
     ∙ ap (λ (l : List ℕ). record { lines = l ∷ (section_at rest).lines; rest = (section_at rest).rest }) (sym f.is_line)
 
--- ---- what is left after a line, and after empty lines
+-- ---- what is left after a line
 
 pub after_line-first : (s line rest : List ℕ) → IsFirstLine s line rest → rest ≡ after_line s
 after_line-first s line rest f = sym (ap (λ (ps : List (List ℕ)). concat (drop 1 ps)) f.first ∙ concat-pieces rest)
-
--- the pieces from the first on that is no empty line, in a row
-from_line : List (List ℕ) → List ℕ
-from_line ps = concat (drop (prefix_len is_empty_line ps) ps)
-
-from_line-empty : (p : List ℕ) (ps : List (List ℕ)) → is_empty_line p ≡ true → from_line (p ∷ ps) ≡ from_line ps
-unfolding from_line
-from_line-empty p ps e =
-    let one : 1 + prefix_len is_empty_line ps ≡ suc (prefix_len is_empty_line ps) = omega arith in
-    rw (e, one) refl
-
-from_line-other : (p : List ℕ) (ps : List (List ℕ)) → is_empty_line p ≡ false → from_line (p ∷ ps) ≡ concat (p ∷ ps)
-unfolding from_line
-from_line-other p ps e = rw e refl
-
-pub after_empty-skips : (s line rest : List ℕ) (b : Bool) → IsFirstLine s line rest → b ≡ (length line == 0) → b ≡ true → after_empty_lines rest ≡ after_empty_lines s
-unfolding from_line
-after_empty-skips s line rest b f e t = sym (ap from_line f.first ∙ from_line-empty f.piece (pieces rest) (empty_piece s line rest b f e ∙ t))
-
-pub after_empty-begins : (s line rest : List ℕ) (b : Bool) → IsFirstLine s line rest → b ≡ (length line == 0) → b ≡ false → s ≡ after_empty_lines s
-unfolding from_line
-after_empty-begins s line rest b f e t =
-    sym (ap from_line f.first ∙ from_line-other f.piece (pieces rest) (empty_piece s line rest b f e ∙ t) ∙ ap concat (sym f.first) ∙ concat-pieces s)
-
--- ---- sections and line ends
-
-pub further-skips : (s line rest : List ℕ) (b : Bool) → IsFirstLine s line rest → b ≡ (length line == 0) → b ≡ true → further_section rest ≡ further_section s
-further-skips s line rest b f e t = sym (further-empty_line s rest f.piece f.first (empty_piece s line rest b f e ∙ t))

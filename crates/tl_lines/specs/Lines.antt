@@ -1,5 +1,5 @@
 -- What cutting lines off an input gives.
-use Rattle.std.specs.Prelude.{◌≡◌, ℕ, List, [], ◌∷◌, drop, Option, Some, None}
+use Rattle.std.specs.Prelude.{◌≡◌, ℕ, Bool, ◌==◌, ◌&&◌, ◌||◌, List, [], ◌∷◌, drop, Option, Some, None}
 use Rattle.std.specs.List.{concat, prefix_len}
 use Rattle.tl_formats.specs.Input.{pieces, line_of, is_empty_line, Section, open_section}
 
@@ -17,6 +17,11 @@ after_line input = concat (drop 1 (pieces input))
 abbrev pub after_empty_lines : List ℕ → List ℕ
 after_empty_lines input =
     let ps = pieces input in concat (drop (prefix_len is_empty_line ps) ps)
+
+-- Whether a byte at the front belongs to the end of an empty line, by the byte that follows it. At the end of the
+-- input a line feed counts as that byte.
+abbrev pub in_line_end : ℕ → ℕ → Bool
+in_line_end b next = b == 10 || (b == 13 && next == 10)
 
 abbrev pub section_at : List ℕ → Section
 section_at input = open_section (pieces input)

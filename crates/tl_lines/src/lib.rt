@@ -1,10 +1,11 @@
 //! The lines of an input, and the sections that they form.
 #![tactic(auto)]
 
-ghost use Rattle.std.specs.Prelude.{◌≡◌, ◌<◌, ◌≤◌, length, IfSome, OnSome};
+ghost use Rattle.std.specs.Prelude.{◌≡◌, ◌<◌, ◌≤◌, ◌+◌, length, slice_index, slice_index_or, IfSome, OnSome};
 ghost use Rattle.tl_formats.specs.Input.{without_end, further_section, rest_is_empty as only_line_ends};
 ghost use Rattle.std.specs.Option.{option_copied};
 ghost use Rattle.tl_lines.specs.Lines.{IsFirstLine, IsNextLine, after_line, after_empty_lines, section_at};
+ghost use Rattle.tl_lines.specs.Lines.{in_line_end};
 
 use memchr::memchr;
 
@@ -54,6 +55,18 @@ pub fn next_line(bytes: &[u8]) -> (Option<&[u8]>, &[u8])
     }
 }
 
+// Whether the byte is a line feed, or a carriage return before one or at the end of the input.
+fn is_in_line_end(bytes: &[u8], i: usize) -> bool
+    requires { i < length bytes.now }
+    ensures { result ≡ in_line_end (slice_index bytes.now i) (slice_index_or bytes.now (i + 1) 10) }
+{
+    match bytes[i] {
+        b'\n' => true,
+        b'\r' => bytes.get(i + 1).copied().unwrap_or(b'\n') == b'\n',
+        _ => false,
+    }
+}
+
 /// What is left of the input after empty lines. The lines of a further section are those that `next_line`
 /// gives from there on.
 pub fn skip_empty_lines(bytes: &[u8]) -> &[u8]
@@ -61,30 +74,19 @@ pub fn skip_empty_lines(bytes: &[u8]) -> &[u8]
     ensures rest { result.now ≡ after_empty_lines bytes.now }
     ensures left { length result.now ≤ length bytes.now }
 {
-    let mut left = bytes;
-    'lines: while !left.is_empty() {
-        let (line, after) = cut_line(left);
-        if !line.is_empty() {
-            break;
+    for i in 0..bytes.len() {
+        if !is_in_line_end(bytes, i) {
+            return &bytes[i..];
         }
-        left = after;
     }
-    left
+    &bytes[bytes.len()..]
 }
 
 /// Whether only line ends stand in the bytes, each with or without a carriage return before it.
 pub fn rest_is_empty(bytes: &[u8]) -> bool
     ensures { result ≡ only_line_ends bytes.now }
 {
-    let mut rest = bytes;
-    while !rest.is_empty() {
-        let (line, after) = cut_line(rest);
-        if !line.is_empty() {
-            return false;
-        }
-        rest = after;
-    }
-    true
+    skip_empty_lines(bytes).is_empty()
 }
 
 #[cfg(test)]

@@ -49,6 +49,20 @@ fn empty_lines_before_a_section_are_skipped(rt: HostRuntime) {
 }
 
 #[test]
+fn a_carriage_return_elsewhere_begins_a_line(rt: HostRuntime) {
+    let cases: [(&[u8], &[u8]); 5] = [
+        (b"\r\n\n\r\n##\r\n", b"##\r\n"),
+        (b"\n\r#\n", b"\r#\n"),
+        (b"\r\n\r\r\n#", b"\r\r\n#"),
+        (b"\n\r\r", b"\r\r"),
+        (b"\r\n\r", b""),
+    ];
+    for (input, left) in cases {
+        assert_eq!(rt; skip_empty_lines(input), left, "{input:?}");
+    }
+}
+
+#[test]
 fn only_line_ends_are_left(rt: HostRuntime) {
     for text in [b"".as_slice(), b"\n", b"\r\n\n", b"\n\r", b"\r"] {
         assert!(rt; rest_is_empty(text), "{text:?}");

@@ -1,17 +1,14 @@
--- Marks of a row and of a text, element by element, and what is read of the rows so far.
-use Rattle.std.proofs.Common.{◌≡◌, ℕ, ◌+◌, ◌<◌, Bool, List, [], ◌∷◌, ◌++◌, map, length, drop, refl, sym, ◌∙◌, ap, arith, add-one, append_assoc, Option, Some, None}
-use Rattle.std.specs.Prelude.{if◌then◌else◌, slice_index, slice_get, fold, max}
-use Rattle.std.proofs.Math.Seq.{drop-cons}
+-- What is read of the rows so far, and which cells of them are kept.
+use Rattle.std.proofs.Common.{◌≡◌, ℕ, ◌+◌, true, ◌≤◌, List, [], ◌∷◌, ◌++◌, map, length, refl, sym, ◌∙◌, ap, arith, append_assoc, Option, Some, None}
+use Rattle.std.specs.Prelude.{nat_lt, nat_le, slice_get, fold, max}
+use Rattle.std.proofs.lemmas.Bool.{lt-ltb, le-leb}
 use Rattle.tl_definitions.specs.declared.Cell.{Cell}
-use Rattle.tl_definitions.specs.Lattice.{cell}
 use Rattle.tl_formats.specs.Input.{Section}
 use Rattle.tl_formats.specs.RegionText.{longest}
 use Rattle.tl_formats.specs.Marks.{marks, text_marks, is_hash, is_bad}
-
--- the marks from a column on are that column's, where its byte passes, and those after it
-pub marks-drop : (test : ℕ → Bool) (r i : ℕ) (bs : List ℕ) → i < length bs
-    → marks test r i (drop i bs) ≡ (if test (slice_index bs i) then cell r i ∷ marks test r (i + 1) (drop (i + 1) bs) else marks test r (i + 1) (drop (i + 1) bs))
-marks-drop test r i bs h = ap (marks test r i) (drop-cons bs i 0 h) ∙ rw add-one refl
+use Rattle.tl_formats.proofs.RegionTexts.{fold_max-above}
+use Rattle.tl_definitions.specs.declared.TheConstants.{SIDE_LIMIT}
+use Rattle.tl_region.specs.Rows.{kept_of_row, kept_of_rows}
 
 nil_of_first : {A : Type 0} (xs : List A) → slice_get xs 0 ≡ None → xs ≡ []
 nil_of_first [] e = refl
@@ -27,7 +24,7 @@ pub record AreReadSoFar (all left : Section) (r width : ℕ) (found : List Cell)
   pub rest : left.rest ≡ all.rest
   pub count : r + length left.lines ≡ length all.lines
   pub columns : fold max width (map length left.lines) ≡ longest all.lines
-  pub cells : found ++ text_marks is_hash r left.lines ≡ text_marks is_hash 0 all.lines
+  pub cells : found ++ kept_of_rows r left.lines ≡ kept_of_rows 0 all.lines
   pub clean : text_marks is_bad r left.lines ≡ text_marks is_bad 0 all.lines
 
 pub so_far-start : (all : Section) → AreReadSoFar all all 0 0 []
@@ -36,7 +33,7 @@ so_far-start all = record { rest = refl; count = omega arith; columns = refl; ce
 -- a line more
 pub so_far-line : (all left next : Section) (count columns : ℕ) (cells more : List Cell) (line : List ℕ) (bad : Option Cell)
     → AreReadSoFar all left count columns cells → left ≡ record { lines = line ∷ next.lines; rest = next.rest }
-    → bad ≡ slice_get (marks is_bad count 0 line) 0 → bad ≡ None → more ≡ cells ++ marks is_hash count 0 line
+    → bad ≡ slice_get (marks is_bad count 0 line) 0 → bad ≡ None → more ≡ cells ++ kept_of_row count line
     → AreReadSoFar all next (count + 1) (max columns (length line)) more
 so_far-line all left next count columns cells more line bad s e b n m =
     let clean : marks is_bad count 0 line ≡ [] = nil_of_first (marks is_bad count 0 line) (sym b ∙ n) in
@@ -45,9 +42,9 @@ so_far-line all left next count columns cells more line bad s e b n m =
       count = omega (arith, ap (λ (l : Section). length l.lines) e, s.count);
       columns = sym (ap (λ (l : Section). fold max columns (map length l.lines)) e) ∙ s.columns;
       cells =
-          ap (λ (l : List Cell). l ++ text_marks is_hash (count + 1) next.lines) m
-          ∙ append_assoc cells (marks is_hash count 0 line) (text_marks is_hash (count + 1) next.lines)
-          ∙ sym (ap (λ (l : Section). cells ++ text_marks is_hash count l.lines) e) ∙ s.cells;
+          ap (λ (l : List Cell). l ++ kept_of_rows (count + 1) next.lines) m
+          ∙ append_assoc cells (kept_of_row count line) (kept_of_rows (count + 1) next.lines)
+          ∙ sym (ap (λ (l : Section). cells ++ kept_of_rows count l.lines) e) ∙ s.cells;
       clean =
           sym (ap (λ (l : List Cell). l ++ text_marks is_bad (count + 1) next.lines) clean)
           ∙ sym (ap (λ (l : Section). text_marks is_bad count l.lines) e) ∙ s.clean;
@@ -60,3 +57,12 @@ pub so_far-bad : (all left next : Section) (count columns : ℕ) (cells : List C
 so_far-bad all left next count columns cells line bad a s e b n =
     ap (λ (l : List Cell). slice_get l 0) (sym s.clean ∙ ap (λ (l : Section). text_marks is_bad count l.lines) e)
     ∙ first-append (marks is_bad count 0 line) (text_marks is_bad (count + 1) next.lines) a (sym b ∙ n)
+
+-- where no row is past the limit, all cells are kept
+pub kept-all : (r width : ℕ) (ls : List (List ℕ)) → r + length ls ≤ SIDE_LIMIT → fold max width (map length ls) ≤ SIDE_LIMIT
+    → kept_of_rows r ls ≡ text_marks is_hash r ls
+kept-all r width [] rows columns = refl
+kept-all r width (l ∷ ls) rows columns =
+    let row : nat_lt r SIDE_LIMIT ≡ true = lt-ltb r SIDE_LIMIT (omega arith) in
+    let short : nat_le (length l) SIDE_LIMIT ≡ true = le-leb (length l) SIDE_LIMIT (omega (arith, fold_max-above (max width (length l)) (map length ls))) in
+    rw (row, short) (ap (λ (m : List Cell). marks is_hash r 0 l ++ m) (kept-all (r + 1) (max width (length l)) ls (omega arith) columns))

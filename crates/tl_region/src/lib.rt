@@ -11,7 +11,7 @@ mod rules;
 pub use fault::RegionFault;
 pub use reading::read_region;
 pub use region::Region;
-pub use tl_grid::BoundarySide;
+pub use tl_grid::{BoundarySide, BoundaryStep};
 pub use tl_lines::rest_is_empty;
 
 #[cfg(test)]

@@ -14,17 +14,17 @@ use crate::fault::RegionFault;
 use crate::header::kind_of;
 use crate::region::Region;
 use crate::rows::{Rows, read_rows};
-use crate::rules::check_rules;
+use crate::rules::accepted;
 use std::alloc::Global;
 use tl_definitions::SIDE_LIMIT;
 use tl_formats::INPUT_LIMIT;
-use tl_grid::{Grid, flags_of, inner_of};
+use tl_grid::Grid;
 use tl_lattice::Kind;
 use tl_lines::cut_line;
 
 // The cells of rows that were read, where they aren't too many or none.
 fn grid_from(alloc: Global, kind: Kind, rows: Rows) -> Result<Grid, RegionFault>
-    requires { IsPlaced (region_by kind rows) }
+    requires { rows.count ≤ SIDE_LIMIT → rows.columns ≤ SIDE_LIMIT → IsPlaced (region_by kind rows) }
     ensures region { IfOk result (λ R. (R ≡ region_by kind rows) × HasAllowedSize R) }
     ensures is_grid { IfOk result IsGrid }
     ensures refused { IfErr result (λ fault. IfSome (refusal_by fault)
@@ -36,10 +36,10 @@ fn grid_from(alloc: Global, kind: Kind, rows: Rows) -> Result<Grid, RegionFault>
     if rows.cells.is_empty() {
         return Err(RegionFault::Empty);
     }
-    let Ok(flags) = flags_of(alloc, rows.count, rows.columns, rows.cells.as_slice()) else {
-        return Err(RegionFault::OutOfMemory);
-    };
-    Ok(Grid::with_flags(kind, rows.count, rows.columns, rows.cells, flags))
+    match Grid::of_cells(alloc, kind, rows.count, rows.columns, rows.cells) {
+        Ok(grid) => Ok(grid),
+        Err(_) => Err(RegionFault::OutOfMemory),
+    }
 }
 
 /// Reads the cells that the first section names, before the rules of an accepted region are asked, and tells the
@@ -80,9 +80,5 @@ pub fn read_region(alloc: Global, bytes: &[u8]) -> Result<(Region, usize), Regio
         (IsRefusedText (first_section bytes.now).lines)) }
 {
     let (grid, taken) = read_grid(alloc, bytes)?;
-    check_rules(alloc, &grid)?;
-    let Ok(inner) = inner_of(alloc, &grid) else {
-        return Err(RegionFault::OutOfMemory);
-    };
-    Ok((Region::of(grid, inner), taken))
+    Ok((accepted(alloc, grid)?, taken))
 }

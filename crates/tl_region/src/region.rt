@@ -1,16 +1,15 @@
 //! The region type.
 
-ghost use Rattle.std.specs.Prelude.{◌≡◌, ◌+◌, ◌<◌, length, slice_get, find, position, option_map, Some, IsTrue};
-ghost use Rattle.tl_definitions.specs.Accepted.{Accepted};
-ghost use Rattle.tl_definitions.specs.Lattice.{corner_eq, is_corner};
-ghost use Rattle.tl_definitions.specs.Region.{has, is_step as is_step_of, inner_corners, corner_places};
-ghost use Rattle.tl_definitions.specs.Boundary.{is_boundary_corner, side_from};
+ghost use Rattle.std.specs.Prelude.{◌≡◌, ◌<◌, length, map, slice_get, position, Some};
+ghost use Rattle.tl_definitions.specs.Accepted.{Accepted, IsCircuit};
+ghost use Rattle.tl_definitions.specs.Lattice.{corner_eq};
+ghost use Rattle.tl_definitions.specs.Region.{has, row_part, is_step as is_step_of, is_inner as is_inner_corner, inner_corners};
 ghost use Rattle.tl_grid.specs.Grid.{IsGrid};
-ghost use Rattle.tl_grid.specs.Inner.{IsInnerOf};
-ghost use Rattle.tl_grid.specs.Sides.{side_of};
+ghost use Rattle.tl_grid.specs.Survey.{inner_places};
+ghost use Rattle.tl_grid.specs.Sides.{side_by};
 
 use std::marker::Model;
-use tl_grid::{BoundarySide, Grid, Inner, first_boundary_corner, is_step, side_out};
+use tl_grid::{BoundaryStep, Grid, inner_corner, is_inner, is_step, number_of};
 use tl_lattice::{Cell, Corner, Kind};
 
 /// An accepted region: finitely many cells of one lattice, at least one, in one piece without pinch and without
@@ -18,31 +17,39 @@ use tl_lattice::{Cell, Corner, Kind};
 #[derive(Drop)]
 pub struct Region {
     grid: Grid,
-    inner: Inner,
+    inner: Vec<u32>,
+    boundary: Vec<BoundaryStep>,
 }
 
 impl Model for Region {
+    ghost use Rattle.std.specs.Prelude.{◌≡◌, map};
     ghost use Rattle.tl_definitions.specs.Region as shape;
     ghost use Rattle.tl_grid.specs.Grid.{IsGrid};
-    ghost use Rattle.tl_grid.specs.Inner.{IsInnerOf};
-    ghost use Rattle.tl_definitions.specs.Accepted.{Accepted};
+    ghost use Rattle.tl_grid.specs.Survey.{inner_places};
+    ghost use Rattle.tl_grid.specs.Sides.{side_by};
+    ghost use Rattle.tl_definitions.specs.Accepted.{Accepted, IsCircuit};
 
     ghost Value = { shape.Region };
 
     ghost view = { λ s. s.grid };
 
-    ghost invariant = { λ s. IsGrid s.grid × IsInnerOf s.grid s.inner × Accepted s.grid };
+    ghost invariant = { λ s. IsGrid s.grid × (s.inner.items ≡ inner_places s.grid) × IsCircuit s.grid (map (side_by s.grid.kind) s.boundary.items) × Accepted s.grid };
 }
 
 impl Region {
-    /// The region of these cells, with its inner corners.
-    pub(crate) fn of(grid: Grid, inner: Inner) -> Region
+    /// The region of these cells, with the places of its inner corners and its boundary.
+    pub(crate) fn of(grid: Grid, inner: Vec<u32>, boundary: Vec<BoundaryStep>) -> Region
         requires is_grid { IsGrid grid }
-        requires inner { IsInnerOf grid inner }
+        requires inner { inner.items ≡ inner_places grid }
+        requires boundary { IsCircuit grid (map (side_by grid.kind) boundary.items) }
         requires accepted { Accepted grid }
         ensures { result ≡ grid }
     {
-        Region { grid, inner }
+        Region {
+            grid,
+            inner,
+            boundary,
+        }
     }
 
     /// The lattice of the region.
@@ -92,12 +99,21 @@ impl Region {
         self.grid.has(cell)
     }
 
+    /// The flags of a row: for each column whether the region has the cell.
+    pub fn row(&self, r: u32) -> &[bool]
+        requires { r < self.now.rows }
+        ensures row { result.now ≡ map (has self.now) (row_part r 0 self.now.columns) }
+        ensures is_grid { IsGrid self.now }
+    {
+        &self.grid.row(r)[..self.grid.columns() as usize]
+    }
+
     /// The number of inner corners: those whose whole ring is in the region.
     pub fn inner_count(&self) -> u32
         ensures count { result ≡ length (inner_corners self.now) }
         ensures is_grid { IsGrid self.now }
     {
-        self.inner.corners.len() as u32
+        self.inner.len() as u32
     }
 
     /// The inner corner of this number, in raster order from 0.
@@ -105,25 +121,17 @@ impl Region {
         requires { i < length (inner_corners self.now) }
         ensures { slice_get (inner_corners self.now) i ≡ Some result }
     {
-        self.inner.corners[i as usize]
+        inner_corner(&self.grid, self.inner.as_slice(), i)
     }
 
-    /// The boundary corner that is first in raster order: a corner from which a boundary side goes.
-    pub fn first_boundary_corner(&self) -> Option<Corner>
-        ensures { result ≡ find (is_boundary_corner self.now) (corner_places self.now) }
+    /// The boundary's sides in order, with the region on the left, from the boundary corner that is first in raster
+    /// order.
+    pub fn boundary(&self) -> &[BoundaryStep]
+        ensures circuit { IsCircuit self.now (map (side_by self.now.kind) result.now) }
+        ensures is_grid { IsGrid self.now }
+        ensures accepted { Accepted self.now }
     {
-        first_boundary_corner(&self.grid)
-    }
-
-    /// The boundary side that leaves the corner with the region on its left, if one does. The pair is a corner of
-    /// the lattice within the region's rows and columns.
-    pub fn side_from(&self, corner: Corner) -> Option<BoundarySide>
-        requires row { corner.r < self.now.rows + 1 }
-        requires column { corner.x < self.now.columns + 2 }
-        requires is_corner { IsTrue (is_corner self.now.kind corner) }
-        ensures { option_map side_of result ≡ side_from self.now corner }
-    {
-        side_out(&self.grid, corner)
+        self.boundary.as_slice()
     }
 
     /// Whether a directed step leads from the one corner to the other, along an edge of a cell of the region and with
@@ -134,11 +142,17 @@ impl Region {
         is_step(&self.grid, from, to)
     }
 
-    /// The number of the corner; None where the pair is no inner corner. Any pair may be
-    /// asked for.
+    /// Whether the pair is an inner corner. Any pair may be asked for.
+    pub fn is_inner(&self, corner: Corner) -> bool
+        ensures { result ≡ is_inner_corner self.now corner }
+    {
+        is_inner(&self.grid, corner)
+    }
+
+    /// The number of the corner, found by halving; None where the pair is no inner corner. Any pair may be asked for.
     pub fn index_of(&self, corner: Corner) -> Option<u32>
         ensures { result ≡ position (corner_eq corner) (inner_corners self.now) }
     {
-        self.inner.index_of(&self.grid, corner)
+        number_of(&self.grid, self.inner.as_slice(), corner)
     }
 }

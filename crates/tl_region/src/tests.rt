@@ -27,9 +27,8 @@ fn a_region_has_its_cells_in_raster_order(rt: HostRuntime) {
         assert_eq!(rt; region.cell_count(), 4);
         let wanted = [(0u32, 0u32), (1, 0), (1, 1), (1, 2)];
         for (i, (r, c)) in wanted.into_iter().enumerate() {
-            if (i as u32) < region.cell_count() {
-                assert_eq!(rt; region.cell(i as u32), Cell { r, c });
-            }
+            assert!(rt; (i as u32) < region.cell_count());
+            assert_eq!(rt; region.cell(i as u32), Cell { r, c });
         }
         for r in 0..5u32 {
             for c in 0..5u32 {
@@ -96,9 +95,8 @@ fn each_text_has_its_first_fault(rt: HostRuntime) {
         ),
     ];
     for (text, fault) in cases {
-        if text.len() < 100 {
-            assert_eq!(rt; fault_of(rt.alloc(), text), Some(fault), "{text:?}");
-        }
+        assert!(rt; text.len() < 100);
+        assert_eq!(rt; fault_of(rt.alloc(), text), Some(fault), "{text:?}");
     }
 }
 
@@ -144,14 +142,47 @@ fn a_region_has_at_most_512_rows_and_columns(rt: HostRuntime) -> Result<(), Allo
     ];
     for (columns, rows, last, fault) in cases {
         let text = long_text(rt.alloc(), columns, rows, last)?;
-        if text.len() <= 4194304 {
-            assert_eq!(rt;
-                fault_of(rt.alloc(), text.as_slice()),
-                fault,
-                "{columns} {rows}"
-            );
-        }
+        assert!(rt; text.len() <= 4194304);
+        assert_eq!(rt;
+            fault_of(rt.alloc(), text.as_slice()),
+            fault,
+            "{columns} {rows}"
+        );
     }
+    Ok(())
+}
+
+#[test]
+fn rows_past_the_limit_have_their_bad_bytes_told(rt: HostRuntime) -> Result<(), AllocError> {
+    let cases: [(usize, usize, &[u8], RegionFault); 5] = [
+        (100000, 1, b"", RegionFault::TooLarge),
+        (600, 2, b".. \n#", RegionFault::TooLarge),
+        (1, 512, b"#.x", RegionFault::BadByte(Cell { r: 512, c: 2 })),
+        (
+            600,
+            600,
+            b"##\n#?x\nx",
+            RegionFault::BadByte(Cell { r: 601, c: 1 }),
+        ),
+        (1, 600, b"\nx", RegionFault::TooLarge),
+    ];
+    for (columns, rows, last, fault) in cases {
+        let text = long_text(rt.alloc(), columns, rows, last)?;
+        assert!(rt; text.len() <= 4194304);
+        assert_eq!(rt;
+            fault_of(rt.alloc(), text.as_slice()),
+            Some(fault),
+            "{columns} {rows}"
+        );
+    }
+    let mut wide = long_text(rt.alloc(), 0, 0, b"")?;
+    for _ in 0..600 {
+        wide.push(b'#')?;
+    }
+    wide.extend_from_slice(b"x#\ny\n")?;
+    assert!(rt; wide.len() <= 4194304);
+    let bad = RegionFault::BadByte(Cell { r: 0, c: 600 });
+    assert_eq!(rt; fault_of(rt.alloc(), wide.as_slice()), Some(bad));
     Ok(())
 }
 
@@ -175,31 +206,196 @@ fn inner_corners_are_numbered_in_raster_order(rt: HostRuntime) -> Result<(), Fai
         (b"triangle\n.###\n.###\n", &[]),
     ];
     for (text, corners) in cases {
-        if text.len() < 100 {
-            let (region, _) = read_region(rt.alloc(), text)?;
-            assert_eq!(rt; region.inner_count() as usize, corners.len(), "{text:?}");
-            for (i, (r, x)) in corners.iter().enumerate() {
-                if (i as u32) < region.inner_count() {
-                    assert_eq!(rt; region.inner(i as u32), Corner { r: *r, x: *x });
-                }
+        assert!(rt; text.len() < 100);
+        let (region, _) = read_region(rt.alloc(), text)?;
+        assert_eq!(rt; region.inner_count() as usize, corners.len(), "{text:?}");
+        for (i, (r, x)) in corners.iter().enumerate() {
+            assert!(rt; (i as u32) < region.inner_count());
+            assert_eq!(rt; region.inner(i as u32), Corner { r: *r, x: *x });
+        }
+        for r in 0..6u32 {
+            for x in 0..7u32 {
+                let number = corners.iter().position(|pair| *pair == (r, x));
+                let corner = Corner { r, x };
+                assert_eq!(rt;
+                    region.index_of(corner).map(|i| i as usize),
+                    number,
+                    "{r} {x}"
+                );
+                assert_eq!(rt; region.is_inner(corner), number.is_some(), "{r} {x}");
             }
-            for r in 0..6u32 {
-                for x in 0..7u32 {
-                    let number = corners.iter().position(|pair| *pair == (r, x));
-                    assert_eq!(rt;
-                        region.index_of(Corner { r, x }).map(|i| i as usize),
-                        number,
-                        "{r} {x}"
-                    );
-                }
-            }
-            for far in [512u32, 513, 1048576, u32::MAX] {
-                assert_eq!(rt; region.index_of(Corner { r: far, x: 1 }), None);
-                assert_eq!(rt; region.index_of(Corner { r: 1, x: far }), None);
-                assert_eq!(rt; region.index_of(Corner { r: far, x: far }), None);
+        }
+        for far in [512u32, 513, 1048576, u32::MAX] {
+            for corner in [
+                Corner { r: far, x: 1 },
+                Corner { r: 1, x: far },
+                Corner { r: far, x: far },
+            ] {
+                assert_eq!(rt; region.index_of(corner), None);
+                assert!(rt; !region.is_inner(corner));
             }
         }
     }
+    Ok(())
+}
+
+#[test]
+fn regions_with_bays_and_bridges_are_accepted(rt: HostRuntime) {
+    let cases: [(&[u8], Option<RegionFault>); 12] = [
+        (
+            b"square
+#
+",
+            None,
+        ),
+        (
+            b"square
+#.#
+###
+",
+            None,
+        ),
+        (
+            b"square
+.#..
+####
+..#.
+",
+            None,
+        ),
+        (
+            b"square
+#####
+....#
+###.#
+#...#
+#####
+",
+            None,
+        ),
+        (
+            b"square
+#####
+....#
+###.#
+#....
+#####
+",
+            Some(RegionFault::Parts(Cell { r: 2, c: 0 })),
+        ),
+        (
+            b"square
+#.#
+",
+            Some(RegionFault::Parts(Cell { r: 0, c: 2 })),
+        ),
+        (
+            b"square
+#.#
+..#
+",
+            Some(RegionFault::Parts(Cell { r: 0, c: 2 })),
+        ),
+        (
+            b"square
+#####
+#...#
+#.#.#
+#.#.#
+..#..
+",
+            Some(RegionFault::Parts(Cell { r: 2, c: 2 })),
+        ),
+        (
+            b"triangle
+.#
+",
+            None,
+        ),
+        (
+            b"triangle
+#.
+#.
+",
+            None,
+        ),
+        (
+            b"triangle
+###
+###
+",
+            None,
+        ),
+        (
+            b"triangle
+#...#
+",
+            Some(RegionFault::Parts(Cell { r: 0, c: 4 })),
+        ),
+    ];
+    for (text, fault) in cases {
+        assert!(rt; text.len() < 100);
+        assert_eq!(rt; fault_of(rt.alloc(), text), fault, "{text:?}");
+    }
+}
+
+#[test]
+fn the_boundary_goes_round_with_the_region_on_its_left(rt: HostRuntime) -> Result<(), Fail> {
+    let cases: [(&[u8], &[(u32, u32)]); 3] = [
+        (
+            b"square
+.#
+",
+            &[(0, 1), (1, 1), (1, 2), (0, 2)],
+        ),
+        (
+            b"square
+##
+#.
+",
+            &[
+                (0, 0),
+                (1, 0),
+                (2, 0),
+                (2, 1),
+                (1, 1),
+                (1, 2),
+                (0, 2),
+                (0, 1),
+            ],
+        ),
+        (
+            b"triangle
+##
+",
+            &[(0, 1), (1, 0), (1, 2), (0, 3)],
+        ),
+    ];
+    for (text, corners) in cases {
+        assert!(rt; text.len() < 100);
+        let (region, _) = read_region(rt.alloc(), text)?;
+        let steps = region.boundary();
+        assert_eq!(rt; steps.len(), corners.len(), "{text:?}");
+        for (step, (r, x)) in steps.iter().zip(corners.iter()) {
+            let side = step.side(region.kind());
+            assert_eq!(rt; side.from, Corner { r: *r, x: *x });
+            assert!(rt; region.has(side.cell));
+        }
+    }
+    Ok(())
+}
+
+#[test]
+fn a_row_has_a_flag_for_each_column(rt: HostRuntime) -> Result<(), Fail> {
+    let (region, _) = read_region(
+        rt.alloc(),
+        b"square
+.##
+#####
+",
+    )?;
+    assert!(rt; region.rows() == 2);
+    assert_eq!(rt; region.row(0), [false, true, true, false, false].as_slice());
     Ok(())
 }
 
@@ -250,21 +446,20 @@ fn steps_go_along_edges_of_cells_in_one_direction(rt: HostRuntime) -> Result<(),
         (b"triangle\n###\n", &triangle),
     ];
     for (text, steps) in cases {
-        if text.len() < 100 {
-            let (region, _) = read_region(rt.alloc(), text)?;
-            for place in 0..24u32 {
-                let from = corner_at(place);
-                for other in 0..24u32 {
-                    let to = corner_at(other);
-                    let wanted = steps.contains(&((from.r, from.x), (to.r, to.x)));
-                    assert_eq!(rt; region.is_step(from, to), wanted, "{place} {other}");
-                }
-                let far = Corner {
-                    r: u32::MAX,
-                    x: u32::MAX - place,
-                };
-                assert!(rt; !region.is_step(from, far) && !region.is_step(far, from));
+        assert!(rt; text.len() < 100);
+        let (region, _) = read_region(rt.alloc(), text)?;
+        for place in 0..24u32 {
+            let from = corner_at(place);
+            for other in 0..24u32 {
+                let to = corner_at(other);
+                let wanted = steps.contains(&((from.r, from.x), (to.r, to.x)));
+                assert_eq!(rt; region.is_step(from, to), wanted, "{place} {other}");
             }
+            let far = Corner {
+                r: u32::MAX,
+                x: u32::MAX - place,
+            };
+            assert!(rt; !region.is_step(from, far) && !region.is_step(far, from));
         }
     }
     Ok(())

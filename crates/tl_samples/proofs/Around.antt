@@ -21,16 +21,7 @@ use Rattle.tl_definitions.proofs.Corners.{corner_eq-same, corner_eq-refl, corner
 use Rattle.tl_definitions.proofs.Steps.{IsStepOut}
 use Rattle.tl_definitions.proofs.Tilings.{TileParts, tile-parts, TilingParts}
 use Rattle.tl_closing.specs.Closing.{steps_round}
-use Rattle.tl_closing.proofs.Residues.{step-one_way}
-use Rattle.tl_closing.proofs.Centres.{IsCentre, round-centre, cell-two, step-one}
-use Rattle.tl_closing.proofs.Edges.{Step, In-has, round-step, round-corners}
-use Rattle.tl_closing.proofs.Near.{shared-near}
-use Rattle.tl_closing.proofs.Shared.{Share}
-use Rattle.tl_closing.proofs.Crossed.{edge-round, round-edge, covers-cases, tile-step}
-use Rattle.tl_closing.proofs.Ring.{inner-ring}
-use Rattle.tl_closing.proofs.Standing.{IsDart, Claims, claims, colours-differ, pair_is}
-use Rattle.tl_closing.proofs.RingTiles.{dart-step-out, dart-step-in, hi-covers, lo-covers}
-use Rattle.tl_closing.proofs.Flips.{lo-at}
+use Rattle.tl_closing.proofs.Stated.{step-one_way, IsCentre, round-centre, cell-two, step-one, Step, In-has, round-step, round-corners, shared-near, Share, edge-round, round-edge, covers-cases, tile-step, inner-ring, IsDart, Claims, claims, colours-differ, pair_is, dart-step-out, dart-step-in, hi-covers, lo-covers, lo-at}
 
 -- Tiles of the region in which the cells at a corner stand, each in one, and no others.
 pub record IsAround (R : Region) (v : Corner) (ts : List Tile) : Type 0 where

@@ -16,7 +16,7 @@ use Rattle.tl_definitions.proofs.Cells.{cell_eq-refl}
 use Rattle.tl_definitions.proofs.Tilings.{tile_eq-same}
 use Rattle.tl_formats.proofs.Cases.{found}
 use Rattle.tl_formats.proofs.Cases.{tiling_eq}
-use Rattle.tl_closing.proofs.TilesInOrder.{tiles-linked}
+use Rattle.tl_closing.proofs.Stated.{tiles-linked}
 
 tile_eq-Decides : (s t : Tile) → Decides (tile_eq s t) (s ≡ t)
 tile_eq-Decides s t = (tile_eq-same s t, λ same. subst (λ (x : Tile). tile_eq s x ≡ true) same (and_from _ _ (cell_eq-refl s.first) (cell_eq-refl s.second)))

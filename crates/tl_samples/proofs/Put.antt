@@ -20,10 +20,7 @@ use Rattle.tl_lists.proofs.Orders.{linked-filter, linked-same, count_by-only}
 use Rattle.tl_lists.proofs.Counts.{Only}
 use Rattle.tl_definitions.proofs.Corners.{corner_eq-same, corner_eq-refl}
 use Rattle.tl_definitions.proofs.Tilings.{TilingParts, tiling-parts}
-use Rattle.tl_closing.proofs.Crossed.{covers-cases, covers-from}
-use Rattle.tl_closing.proofs.RingTiles.{hi-covers, lo-covers}
-use Rattle.tl_closing.proofs.Exchange.{is_in-In, In-is_in}
-use Rattle.tl_closing.proofs.TilesInOrder.{tiles-linked}
+use Rattle.tl_closing.proofs.Stated.{covers-cases, covers-from, hi-covers, lo-covers, is_in-In, In-is_in, tiles-linked}
 use Rattle.tl_samples.proofs.Around.{IsAround, hi-around, lo-around}
 
 module _ (R : Region) (placed : IsPlaced R) (A : List Tile) (tiling : is_tiling R A ≡ true) where

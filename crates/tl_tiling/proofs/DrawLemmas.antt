@@ -1,5 +1,5 @@
 -- What the letters of a drawing draw.
-use Rattle.std.proofs.Common.{◌≡◌, ℕ, ◌<◌, Bool, true, false, not, ◌&&◌, inl, inr, List, [], ◌∷◌, refl, sym, ◌∙◌, ap, subst, Option, Some, None}
+use Rattle.std.proofs.Common.{◌≡◌, ◌≢◌, ℕ, ◌<◌, Bool, true, false, not, ◌&&◌, inl, inr, List, [], ◌∷◌, refl, sym, ◌∙◌, ap, subst, Option, Some, None}
 use Rattle.std.specs.Prelude.{find, option_and_then, option_map, IfSome}
 use Rattle.std.specs.List.{list_all}
 use Rattle.tl_definitions.specs.declared.Cell.{Cell}
@@ -38,7 +38,7 @@ not_refused R lines letters s e = refused-none R lines s.allowed (unmatched-line
 
 pub are_letters : (R : Region) (lines : List (List ℕ)) (letters : List ℕ) → AreReadLetters R lines letters
     → None ≡ find (λ a. not (is_matched R (partner_in R letters) a)) R.cells → AreLetters R letters
-are_letters R lines letters s e = record { size = s.size; matched = find-none (is_matched R (partner_in R letters)) R.cells (sym e); dotted = s.dotted }
+are_letters R lines letters s e = record { size = s.lettered.size; matched = find-none (is_matched R (partner_in R letters)) R.cells (sym e); dotted = s.lettered.dotted }
 
 pub drawn_by : (R : Region) (lines : List (List ℕ)) (letters : List ℕ) → IsGrid R → AreReadLetters R lines letters
     → None ≡ find (λ a. not (is_matched R (partner_in R letters) a)) R.cells → Draws R lines (tiles_in R letters)
@@ -54,8 +54,8 @@ letters-tiling R letters k s = tiles_by-tiling R (partner_in R letters) k.placed
 pub letters-partner : (R : Region) (letters : List ℕ) (a : Cell) → IsGrid R → AreLetters R letters → has R a ≡ true → partner (tiles_in R letters) a ≡ partner_in R letters a
 letters-partner R letters a k s h = partner-tiles_by R (partner_in R letters) k.placed (all-matched R (partner_in R letters) s.matched) a h
 
-pub some-partner : (R : Region) (letters : List ℕ) (a : Cell) → AreLetters R letters → has R a ≡ true → None ≡ partner_in R letters a → ⊥
-some-partner R letters a s h e = cc (e, (all-matched R (partner_in R letters) s.matched a h).1)
+pub has_partner : (R : Region) (letters : List ℕ) (a : Cell) → AreLetters R letters → has R a ≡ true → partner_in R letters a ≢ None
+has_partner R letters a s h e = cc (e, (all-matched R (partner_in R letters) s.matched a h).1)
 
 -- ---- a section that stands where another one's lines are
 

@@ -1,11 +1,12 @@
 //! The letters of a drawing, one for each place of the region's rows and columns.
 
-ghost use Rattle.std.specs.Prelude.{◌≡◌, ◌*◌, ◌≤◌, ◌^◌, not, max, length, find, slice_get, IfOk, IfErr, IfSome, MatchOption, None, Some};
-ghost use Rattle.tl_definitions.specs.Region.{has, row_part};
+ghost use Rattle.std.specs.Prelude.{◌≡◌, ◌*◌, ◌<◌, ◌≤◌, ◌^◌, ℕ, true, false, not, nat_le, length, find, slice_get, slice_index, slice_index_or, if◌then◌else◌, IfOk, IfErr, IfSome, MatchOption, None, Some};
+ghost use Rattle.tl_definitions.specs.Lattice.{cell};
+ghost use Rattle.tl_definitions.specs.Region.{has};
 ghost use Rattle.tl_formats.specs.RegionText.{is_blank as is_blank_byte};
 ghost use Rattle.tl_formats.specs.Drawing.{is_letter as is_letter_byte, first_bad_letter};
 ghost use Rattle.tl_grid.specs.Grid.{IsGrid};
-ghost use Rattle.tl_tiling.specs.Letters.{is_allowed_in, ReadsLine, AreReadBefore, HasNoCellFrom, IsFirstCellFrom, AreReadLetters, IsFirstBadLetter};
+ghost use Rattle.tl_tiling.specs.Letters.{is_allowed_in, IsFirstBadIn, ReadsLine, AreReadBefore, AreReadLetters, IsFirstBadLetter};
 ghost use Rattle.tl_tiling.specs.Refusals.{refusal_by};
 ghost use Rattle.tl_lines.specs.Lines.{section_at};
 
@@ -19,50 +20,141 @@ use tl_region::Region;
 fn is_letter(byte: u8) -> bool
     ensures { result ≡ is_letter_byte (Some byte) }
 {
-    matches!(byte, b'>' | b'<' | b'v' | b'^')
+    (byte == b'>') | (byte == b'<') | (byte == b'v') | (byte == b'^')
 }
 
-fn is_blank(byte: Option<u8>) -> bool
-    ensures { result ≡ is_blank_byte byte }
+fn is_blank(byte: u8) -> bool
+    ensures { result ≡ is_blank_byte (Some byte) }
 {
-    matches!(byte, None | Some(b'.' | b' '))
+    (byte == b'.') | (byte == b' ')
 }
 
-// The byte in a column of the line, if there is one.
-fn byte_at(line: &[u8], c: u32) -> Option<u8>
-    ensures { result ≡ slice_get line.now c }
+fn is_allowed(inside: bool, byte: Option<u8>) -> bool
+    ensures { result ≡ (if inside then is_letter_byte byte else is_blank_byte byte) }
 {
-    line.get(c as usize).copied()
+    match byte {
+        Some(byte) if inside => is_letter(byte),
+        Some(byte) => is_blank(byte),
+        None => !inside,
+    }
+}
+
+// The flags of a row, one for each column.
+fn flags_of(region: &Region, r: u32) -> &[bool]
+    requires { r < region.now.rows }
+    ensures len { length result.now ≡ region.now.columns }
+    ensures flags { (c : ℕ) → c < region.now.columns
+        → slice_index_or result.now c false ≡ has region.now (cell r c) }
+    ensures is_grid { IsGrid region.now }
+{
+    region.row(r)
+}
+
+// Whether each byte is allowed, in the part that a line and its row both have. A loop with no branch in it
+// looks at many bytes at a time.
+fn are_allowed_in_both(region: &Region, r: u32, line: &[u8]) -> bool
+    requires { r < region.now.rows }
+    ensures { result ≡ true → (c : ℕ) → c < length line.now → c < region.now.columns
+        → is_allowed_in region.now line.now (cell r c) ≡ true }
+{
+    let flags = flags_of(region, r);
+    let mut fine = true;
+    for c in 0..line.len().min(flags.len()) {
+        fine &= is_allowed(flags[c], Some(line[c]));
+    }
+    fine
+}
+
+// Whether the bytes of a line from a column on are blank.
+fn are_blank(line: &[u8], from: usize) -> bool
+    ensures { result ≡ true → (c : ℕ) → from ≤ c → is_blank_byte (slice_get line.now c) ≡ true }
+{
+    let mut fine = true;
+    for c in from..line.len() {
+        fine &= is_blank(line[c]);
+    }
+    fine
+}
+
+// Whether a row has no cell from a column on.
+fn is_empty(region: &Region, r: u32, from: usize) -> bool
+    requires { r < region.now.rows }
+    ensures { result ≡ true → (c : ℕ) → from ≤ c → has region.now (cell r c) ≡ false }
+{
+    let flags = flags_of(region, r);
+    let mut empty = true;
+    for c in from..flags.len() {
+        empty &= !flags[c];
+    }
+    empty
+}
+
+// Whether each byte of a line is allowed.
+fn are_allowed(region: &Region, r: u32, line: &[u8]) -> bool
+    ensures { result ≡ true → (c : ℕ) → is_allowed_in region.now line.now (cell r c) ≡ true }
+{
+    if r >= region.rows() {
+        return are_blank(line, 0);
+    }
+    if !are_blank(line, region.columns() as usize) {
+        return false;
+    }
+    are_allowed_in_both(region, r, line) && is_empty(region, r, line.len())
+}
+
+// The first place of a row whose byte isn't allowed. All lines but the one that is refused have none, so
+// what comes after the first test need not be quick.
+fn first_bad(region: &Region, r: u32, line: &[u8]) -> Option<Cell>
+    requires { length line.now ≤ INPUT_LIMIT }
+    ensures { MatchOption result ((c : ℕ) → is_allowed_in region.now line.now (cell r c) ≡ true)
+        (IsFirstBadIn region.now r line.now) }
+{
+    if are_allowed(region, r, line) {
+        return None;
+    }
+    for c in 0..region.columns().max(line.len() as u32) {
+        let place = Cell { r, c };
+        if !is_allowed(region.has(place), line.get(c as usize).copied()) {
+            return Some(place);
+        }
+    }
+    None
+}
+
+// Puts the letters of a line into its row, where the row has cells.
+fn put_letters(region: &Region, r: u32, line: &[u8], row: &mut [u8])
+    requires row { r < region.now.rows }
+    requires size { length row.old ≡ region.now.columns }
+    ensures put { (c : ℕ) → c < length line.now → has region.now (cell r c) ≡ true
+        → slice_index row.new c ≡ slice_index line.now c }
+    ensures kept { (c : ℕ) → has region.now (cell r c) ≡ false → slice_index row.new c ≡ slice_index row.old c }
+{
+    let flags = flags_of(region, r);
+    for c in 0..line.len().min(flags.len()) {
+        if flags[c] {
+            row[c] = line[c];
+        }
+    }
 }
 
 // Puts the letters of a line into its row, or gives its first place whose byte isn't allowed.
-fn read_line(region: &Region, r: u32, line: &[u8], letters: &mut Vec<u8>) -> Option<Cell>
-    requires size { length letters.old.items ≡ region.now.rows * region.now.columns }
+fn read_line(region: &Region, r: u32, line: &[u8], letters: &mut [u8]) -> Option<Cell>
+    requires size { length letters.old ≡ region.now.rows * region.now.columns }
     requires short { length line.now ≤ INPUT_LIMIT }
-    ensures bad { result ≡ find (λ a. not (is_allowed_in region.now line.now a))
-        (row_part r 0 (max region.now.columns (length line.now))) }
-    ensures size { length letters.new.items ≡ length letters.old.items }
-    ensures read { result ≡ None → ReadsLine region.now r line.now letters.old.items letters.new.items }
+    ensures bad { MatchOption result ((c : ℕ) → is_allowed_in region.now line.now (cell r c) ≡ true)
+        (IsFirstBadIn region.now r line.now) }
+    ensures read { result ≡ None → ReadsLine region.now r line.now letters.old letters.new }
     ensures is_grid { IsGrid region.now }
 {
-    let columns = region.columns();
-    let width = columns.max(line.len() as u32);
-    for c in 0..width {
-        let cell = Cell { r, c };
-        let byte = byte_at(line, c);
-        if !region.has(cell) {
-            if !is_blank(byte) {
-                return Some(cell);
-            }
-            continue;
-        }
-        match byte {
-            Some(letter) if is_letter(letter) => {
-                letters[r as usize * columns as usize + c as usize] = letter;
-            }
-            _ => return Some(cell),
-        }
+    let columns = region.columns() as usize;
+    if let Some(cell) = first_bad(region, r, line) {
+        return Some(cell);
     }
+    if r >= region.rows() {
+        return None;
+    }
+    let start = r as usize * columns;
+    put_letters(region, r, line, &mut letters[start..start + columns]);
     None
 }
 
@@ -71,12 +163,12 @@ fn read_line(region: &Region, r: u32, line: &[u8], letters: &mut Vec<u8>) -> Opt
 fn read_lines<'t>(
     region: &Region,
     text: &'t [u8],
-    letters: &mut Vec<u8>,
+    letters: &mut [u8],
 ) -> Result<(u32, &'t [u8]), Cell>
-    requires dots { AreReadBefore region.now (section_at text.now).lines 0 letters.old.items }
+    requires dots { AreReadBefore region.now (section_at text.now).lines 0 letters.old }
     requires short { length text.now ≤ INPUT_LIMIT }
     ensures read { IfOk result (λ p. AreReadBefore region.now
-        (section_at text.now).lines p.0 letters.new.items) }
+        (section_at text.now).lines p.0 letters.new) }
     ensures count { IfOk result (λ p. p.0 ≡ length (section_at text.now).lines) }
     ensures rest { IfOk result (λ p. p.1.now ≡ (section_at text.now).rest) }
     ensures within { IfOk result (λ p. length p.1.now ≤ length text.now) }
@@ -97,24 +189,16 @@ fn read_lines<'t>(
     }
 }
 
-fn first_cell_in_row(region: &Region, r: u32) -> Option<Cell>
-    ensures { result ≡ find (has region.now) (row_part r 0 region.now.columns) }
-{
-    for c in 0..region.columns() {
-        let cell = Cell { r, c };
-        if region.has(cell) {
-            return Some(cell);
-        }
-    }
-    None
-}
-
 // The first cell of the region in the rows from one on.
 fn first_cell_from(region: &Region, from: u32) -> Option<Cell>
-    ensures { MatchOption result (HasNoCellFrom region.now from) (IsFirstCellFrom region.now from) }
+    ensures { result ≡ find (λ a. nat_le from a.r) region.now.cells }
 {
-    for r in from..region.rows() {
-        if let Some(cell) = first_cell_in_row(region, r) {
+    if from >= region.rows() {
+        return None;
+    }
+    for i in 0..region.cell_count() {
+        let cell = region.cell(i);
+        if cell.r >= from {
             return Some(cell);
         }
     }

@@ -6,15 +6,15 @@ use crate::{DrawFault, read_drawing};
 use std::alloc::{AllocError, Global};
 use tl_formats::INPUT_LIMIT;
 use tl_lattice::Cell;
-use tl_region::{Region, read_region};
+use tl_region::{Region, RegionFault, read_region};
 
-// What refuses a drawing of the region that a text describes, if the text does.
-fn refusal(alloc: Global, text: &[u8], drawn: &[u8]) -> Option<DrawFault>
+// What refuses a drawing of the region that a text describes, or what refuses the region.
+fn refusal(alloc: Global, text: &[u8], drawn: &[u8]) -> Result<Option<DrawFault>, RegionFault>
     requires text { length text.now ≤ INPUT_LIMIT }
     requires drawn { length drawn.now ≤ INPUT_LIMIT }
 {
-    let (region, _) = read_region(alloc, text).ok()?;
-    read_drawing(alloc, &region, drawn).err()
+    let (region, _) = read_region(alloc, text)?;
+    Ok(read_drawing(alloc, &region, drawn).err())
 }
 
 fn tall(alloc: Global) -> Option<Region> {
@@ -63,7 +63,9 @@ fn each_drawing_has_its_first_fault(rt: HostRuntime) {
     let unmatched = |r: u32, c: u32| Some(DrawFault::Unmatched(Cell { r, c }));
     let square = b"square\n##\n##\n".as_slice();
     let notched = b"square\n.##.\n####\n".as_slice();
-    let cases: [(&[u8], &[u8], Option<DrawFault>); 16] = [
+    let below = b"square\n##\n..\n".as_slice();
+    let wide = b"square\n####################################\n".as_slice();
+    let cases: [(&[u8], &[u8], Option<DrawFault>); 22] = [
         (square, b"><\n><\n", None),
         (square, b"vv\n^^", None),
         (square, b"", bad(0, 0)),
@@ -80,10 +82,20 @@ fn each_drawing_has_its_first_fault(rt: HostRuntime) {
         (notched, b".><.  .\n><><\n", None),
         (notched, b"v><.\n><><\n", bad(0, 0)),
         (notched, b".><.\n>>><\n", unmatched(1, 0)),
+        (below, b"><\n", None),
+        (below, b"><\n.>\n", bad(1, 1)),
+        (square, b"<>\n><\n", unmatched(0, 0)),
+        (wide, b"><><><><><><><><><><><><><><><><><><\n", None),
+        (wide, b"><><><><><><><><><><><><><><><><>.><\n", bad(0, 33)),
+        (
+            wide,
+            b"><><><><><><><><><><><><><><><><>>><\n",
+            unmatched(0, 32),
+        ),
     ];
     for (text, drawn, wanted) in cases {
         if text.len() < 100 && drawn.len() < 100 {
-            assert_eq!(rt; refusal(rt.alloc(), text, drawn), wanted, "{drawn:?}");
+            assert_eq!(rt; refusal(rt.alloc(), text, drawn), Ok(wanted), "{drawn:?}");
         }
     }
 }
@@ -92,8 +104,8 @@ fn each_drawing_has_its_first_fault(rt: HostRuntime) {
 fn triangles_that_point_down_have_no_cell_below(rt: HostRuntime) {
     let text = b"triangle\n###\n###\n".as_slice();
     let unmatched = Some(DrawFault::Unmatched(Cell { r: 0, c: 1 }));
-    assert_eq!(rt; refusal(rt.alloc(), text, b"vvv\n^^^\n"), unmatched);
-    assert_eq!(rt; refusal(rt.alloc(), text, b"><v\n><^\n"), None);
+    assert_eq!(rt; refusal(rt.alloc(), text, b"vvv\n^^^\n"), Ok(unmatched));
+    assert_eq!(rt; refusal(rt.alloc(), text, b"><v\n><^\n"), Ok(None));
     let text = b"triangle\n#\n#\n".as_slice();
-    assert_eq!(rt; refusal(rt.alloc(), text, b"v\n^\n"), None);
+    assert_eq!(rt; refusal(rt.alloc(), text, b"v\n^\n"), Ok(None));
 }

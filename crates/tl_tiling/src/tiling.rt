@@ -55,10 +55,7 @@ impl<'a> Tiling<'a> {
         requires { IsTrue (has self.now.region cell) }
         ensures { partner self.now.tiles cell ≡ Some result }
     {
-        match partner_in(self.region, self.letters.as_slice(), cell) {
-            Some(other) => other,
-            None => unreachable!(),
-        }
+        partner_in(self.region, self.letters.as_slice(), cell)
     }
 
     /// Prints the drawing: one line for each row, each with a line feed, of as many bytes as the region has

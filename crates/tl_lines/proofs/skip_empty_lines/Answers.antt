@@ -1,22 +1,21 @@
-use Rattle.std.proofs.Common.{◌∙◌, arith}
-use Rattle.tl_lines.proofs.Cut.{further-skips, after_empty-skips, after_empty-begins}
+use Rattle.std.proofs.Common.{◌∙◌}
+use Rattle.tl_lines.proofs.EmptyLines.{left_at, left_none, from_line-drop}
 use Rattle.tl_lines.proofs.skip_empty_lines.Goals as goal
 
-pub lines-preserved : goal.lines-preserved
-lines-preserved c =
-    let left = c.lines.left.now in
-    let after = c.cut_line.result.1.now in
-    let line = c.cut_line.result.0.now in
-    let first = c.cut_line.ensures.first in
-    let is_empty = c.is_empty-in-lines in
-    let empty = c.if-not-is_empty.false in
-    record {
-      section = further-skips left line after is_empty.result first is_empty.ensures empty ∙ c.lines.invariant.section;
-      rest = after_empty-skips left line after is_empty.result first is_empty.ensures empty ∙ c.lines.invariant.rest;
-      left = omega (arith, c.cut_line.ensures.shorter, c.lines.invariant.left);
-    }
+pub returns-then-not-is_in_line_end-clause-section : goal.returns-then-not-is_in_line_end-clause-section
+returns-then-not-is_in_line_end-clause-section c =
+    (left_at c.args.bytes.now c.loop-i.i _ c.loop-i-test.true c.loop-i.invariant c.is_in_line_end.ensures c.if-not-is_in_line_end.true).section
 
-pub returns-then-not-is_empty-clause-rest : goal.returns-then-not-is_empty-clause-rest
-returns-then-not-is_empty-clause-rest c =
-    after_empty-begins c.lines.left.now c.cut_line.result.0.now c.cut_line.result.1.now c.is_empty-in-lines.result
-    c.cut_line.ensures.first c.is_empty-in-lines.ensures c.if-not-is_empty.true ∙ c.lines.invariant.rest
+pub returns-then-not-is_in_line_end-clause-rest : goal.returns-then-not-is_in_line_end-clause-rest
+returns-then-not-is_in_line_end-clause-rest c =
+    (left_at c.args.bytes.now c.loop-i.i _ c.loop-i-test.true c.loop-i.invariant c.is_in_line_end.ensures c.if-not-is_in_line_end.true).rest
+
+pub loop-i-preserved : goal.loop-i-preserved
+loop-i-preserved c =
+    from_line-drop c.args.bytes.now c.loop-i.i _ c.loop-i-test.true c.is_in_line_end.ensures c.if-not-is_in_line_end.false ∙ c.loop-i.invariant
+
+pub returns-clause-section : goal.returns-clause-section
+returns-clause-section c = (left_none c.args.bytes.now c.loop-i.i c.loop-i-test.false c.loop-i.invariant).section
+
+pub returns-clause-rest : goal.returns-clause-rest
+returns-clause-rest c = (left_none c.args.bytes.now c.loop-i.i c.loop-i-test.false c.loop-i.invariant).rest

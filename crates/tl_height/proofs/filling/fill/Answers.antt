@@ -5,8 +5,7 @@ use Rattle.tl_definitions.specs.Lattice.{corner}
 use Rattle.tl_definitions.specs.Region.{Region}
 use Rattle.tl_definitions.specs.Accepted.{Accepted}
 use Rattle.tl_definitions.specs.Heights.{height, AreHeights}
-use Rattle.tl_closing.proofs.Heights.{heights-lawful}
-use Rattle.tl_closing.proofs.Filling.{place, fill-place}
+use Rattle.tl_closing.proofs.Stated.{heights-lawful, place, fill-place}
 use Rattle.tl_height.proofs.FillLemmas.{filled}
 use Rattle.tl_height.proofs.filling.fill.Goals as goal
 

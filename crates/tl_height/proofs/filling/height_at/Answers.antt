@@ -1,26 +1,27 @@
-use Rattle.std.proofs.Common.{◌≡◌, ℕ, Bool, Option, ◌-◌, length, get_or, true, false, List, sym, ◌∙◌, ap, subst, arith, ℤ, pos, ◌+ℤ◌}
-use Rattle.std.specs.Prelude.{is_some, position}
-use Rattle.tl_definitions.specs.Lattice.{corner, corner_eq, cell_width}
-use Rattle.tl_definitions.specs.Region.{Region, is_inner, inner_corners}
-use Rattle.tl_definitions.specs.Accepted.{IsPlaced, circuit_corners}
+use Rattle.std.proofs.Common.{◌≡◌, Bool, None, ◌-◌, length, get_or, true, false, List, sym, ◌∙◌, ap, subst, arith, ℤ, pos, ◌+ℤ◌}
+use Rattle.std.specs.Prelude.{position}
+use Rattle.std.specs.List.{list_any}
+use Rattle.tl_definitions.specs.Lattice.{corner, corner_eq, cell_width, Side}
+use Rattle.tl_definitions.specs.Region.{Region, is_inner}
+use Rattle.tl_definitions.specs.Accepted.{IsCircuit, circuit_corners}
 use Rattle.tl_definitions.specs.declared.Corner.{Corner}
 use Rattle.tl_definitions.specs.declared.Tile.{Tile}
 use Rattle.tl_definitions.specs.Heights.{height, AreHeights}
-use Rattle.tl_definitions.proofs.InnerNumbers.{is_some-number}
-use Rattle.tl_closing.proofs.Heights.{has-heights}
-use Rattle.tl_closing.proofs.Filling.{fill-boundary, fill-nothing, fill-range}
+use Rattle.tl_closing.proofs.Stated.{has-heights, fill-boundary, fill-nothing, fill-range}
 use Rattle.tl_height.proofs.FillLemmas.{LeftRead, left-read, InRange, sum-fits, sum-is, cast-fits, cast-is, position-at, position-off}
 use Rattle.tl_height.proofs.filling.height_at.Goals as goal
 
--- whether the corner is an inner one, as its number tells
-numbered : (R : Region) (S : Region) (v : Corner) (o : Option ℕ) (t : Bool) → IsPlaced R → S ≡ R → o ≡ position (corner_eq v) (inner_corners S) → is_some o ≡ t → is_inner R v ≡ t
-numbered R S v o t placed same e f =
-    sym (is_some-number R v placed) ∙ (sym (ap is_some (e ∙ ap (λ (Q : Region). position (corner_eq v) (inner_corners Q)) same)) ∙ f)
+-- whether the corner is an inner one
+told : (R S : Region) (v : Corner) (walk : List Side) (s t : Bool) → S ≡ R → IsCircuit R walk → None ≡ position (corner_eq v) (circuit_corners walk)
+    → ((others : List Side) → IsCircuit S others → list_any (corner_eq v) (circuit_corners others) ≡ false → s ≡ is_inner S v) → s ≡ t → is_inner R v ≡ t
+told R S v walk s t same circuit none tells e =
+    ap (λ (Q : Region). is_inner Q v) (sym same)
+    ∙ sym (tells walk (subst (λ (Q : Region). IsCircuit Q walk) (sym same) circuit) (position-off (circuit_corners walk) v none)) ∙ e
 
 left : (c : goal.After-cell_width-width) → LeftRead c.args.tiling.now.region c.args.tiling.now.tiles c.args.corner c.args.before.now c.cell_width-width.result
 left c =
     let R = c.args.tiling.now.region in
-    let inner = numbered R c.region-region.result.now c.args.corner c.index_of.result true c.requires.is_grid.placed c.region-region.ensures.region c.index_of.ensures (sym c.if-is_some.ensures) in
+    let inner = told R c.region-region.result.now c.args.corner c.args.circuit.now c.is_inner_off.result true c.region-region.ensures.region c.requires.circuit c.in_default.ensures c.is_inner_off.ensures c.if-is_inner_off.true in
     let wide = c.cell_width-width.ensures ∙ ap cell_width (c.kind.ensures ∙ ap (λ (Q : Region). Q.kind) c.region-region.ensures.region) in
     left-read R c.args.tiling.now.tiles c.requires.accepted c.region-region.ensures.tiling c.args.corner inner c.requires.row c.requires.column c.args.before.now c.requires.before c.cell_width-width.result wide
 
@@ -32,7 +33,7 @@ bounds-before-before c = (left c).below
 
 pub rise_from_left-requires : goal.rise_from_left-requires
 rise_from_left-requires c =
-    numbered c.args.tiling.now.region c.region-region.result.now c.args.corner c.index_of.result true c.requires.is_grid.placed c.region-region.ensures.region c.index_of.ensures (sym c.if-is_some.ensures)
+    told c.args.tiling.now.region c.region-region.result.now c.args.corner c.args.circuit.now c.is_inner_off.result true c.region-region.ensures.region c.requires.circuit c.in_default.ensures c.is_inner_off.ensures c.if-is_inner_off.true
 
 -- the two numbers that are added, and their sum
 record Adds (R : Region) (A : List Tile) (v : Corner) (a b : ℤ) (numbers : List ℤ) : Type 0 where
@@ -43,7 +44,7 @@ record Adds (R : Region) (A : List Tile) (v : Corner) (a b : ℤ) (numbers : Lis
 left-after : (c : goal.After-rise_from_left) → LeftRead c.args.tiling.now.region c.args.tiling.now.tiles c.args.corner c.args.before.now c.cell_width-width.result
 left-after c =
     let R = c.args.tiling.now.region in
-    let inner = numbered R c.region-region.result.now c.args.corner c.index_of.result true c.requires.is_grid.placed c.region-region.ensures.region c.index_of.ensures (sym c.if-is_some.ensures) in
+    let inner = told R c.region-region.result.now c.args.corner c.args.circuit.now c.is_inner_off.result true c.region-region.ensures.region c.requires.circuit c.in_default.ensures c.is_inner_off.ensures c.if-is_inner_off.true in
     let wide = c.cell_width-width.ensures ∙ ap cell_width (c.kind.ensures ∙ ap (λ (Q : Region). Q.kind) c.region-region.ensures.region) in
     left-read R c.args.tiling.now.tiles c.requires.accepted c.region-region.ensures.tiling c.args.corner inner c.requires.row c.requires.column c.args.before.now c.requires.before c.cell_width-width.result wide
 
@@ -88,8 +89,8 @@ overflow_cast-result c =
     let r = reads c numbers h in
     cast-fits c.prefix.result (height c.args.tiling.now.region numbers c.args.corner) r.range r.is
 
-pub returns-then-is_some : goal.returns-then-is_some
-returns-then-is_some c numbers h =
+pub returns-then-is_inner_off : goal.returns-then-is_inner_off
+returns-then-is_inner_off c numbers h =
     let r = adds c numbers h in
     sum-is _ c.rise_from_left.result (height c.args.tiling.now.region numbers c.args.corner) r.first c.rise_from_left.ensures.low c.rise_from_left.ensures.high r.sum r.added
 
@@ -98,9 +99,9 @@ returns-in-Some c numbers h =
     let r = reads c numbers h in
     cast-is c.prefix.result (height c.args.tiling.now.region numbers c.args.corner) r.range r.is
 
-pub returns-in-None : goal.returns-in-None
-returns-in-None c numbers h =
+pub returns-else-is_inner_off : goal.returns-else-is_inner_off
+returns-else-is_inner_off c numbers h =
     let R = c.args.tiling.now.region in
-    let inner = numbered R c.region-region.result.now c.args.corner c.index_of.result false c.requires.is_grid.placed c.region-region.ensures.region c.index_of.ensures (sym c.if-is_some.ensures) in
+    let inner = told R c.region-region.result.now c.args.corner c.args.circuit.now c.is_inner_off.result false c.region-region.ensures.region c.requires.circuit c.in_default.ensures c.is_inner_off.ensures c.if-is_inner_off.false in
     sym (fill-nothing R c.args.tiling.now.tiles numbers c.requires.accepted c.region-region.ensures.tiling h c.args.circuit.now c.args.corner c.requires.circuit c.requires.column inner
-    (position-off _ c.args.corner c.in-None.ensures))
+    (position-off _ c.args.corner c.in_default.ensures))

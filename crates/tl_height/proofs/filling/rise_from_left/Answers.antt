@@ -6,7 +6,7 @@ use Rattle.tl_definitions.specs.declared.Kind.TheVariants.{Square, Triangle}
 use Rattle.tl_definitions.specs.Lattice.{corner, rise, cell_width}
 use Rattle.tl_definitions.specs.Region.{Region}
 use Rattle.tl_definitions.specs.Heights.{height}
-use Rattle.tl_closing.proofs.Filling.{leads_right}
+use Rattle.tl_closing.proofs.Stated.{leads_right}
 use Rattle.tl_height.proofs.FillLemmas.{same_parity, rise-told}
 use Rattle.tl_height.proofs.filling.rise_from_left.Goals as goal
 use Rattle.tl_height.proofs.filling.rise_from_left.Goals.{in-Square, in-Triangle, then-eq, else-eq}

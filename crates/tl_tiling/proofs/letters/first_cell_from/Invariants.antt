@@ -1,7 +1,6 @@
-use Rattle.std.proofs.Common.{◌≡◌, ℕ, ◌<◌, ◌≤◌, None}
-use Rattle.std.specs.Prelude.{find}
-use Rattle.tl_definitions.specs.Region.{has, row_part}
+use Rattle.std.proofs.Common.{◌≡◌, drop}
+use Rattle.std.specs.Prelude.{find, nat_le}
 use Rattle.tl_tiling.proofs.letters.first_cell_from.Given as goal
 
-abbrev pub invariant-loop-r : goal.invariant-loop-r
-invariant-loop-r l = (i : ℕ) → l.from ≤ i → i < l.r → find (has l.region) (row_part i 0 l.region.columns) ≡ None
+abbrev pub invariant-loop-i : goal.invariant-loop-i
+invariant-loop-i l = find (λ a. nat_le l.from a.r) (drop l.i l.region.cells) ≡ find (λ a. nat_le l.from a.r) l.region.cells

@@ -1,4 +1,4 @@
-use Rattle.std.proofs.Common.{◌<◌, length, subst, refl, arith}
+use Rattle.std.proofs.Common.{◌<◌, length, subst, arith}
 use Rattle.std.specs.Prelude.{OnSome}
 use Rattle.std.specs.Option.{option_copied}
 use Rattle.tl_lines.specs.Lines.{IsNextLine, section_at}
@@ -10,11 +10,12 @@ returns-in-Some-read_line-clause-bad c =
     let rest = c.loop-line.rest.now in
     let after = c.next_line.result.1.now in
     let next = subst (λ o. IsNextLine rest (option_copied o) after) c.in-Some.is c.next_line.ensures.next in
-    up_to-bad c.args.region.now (section_at c.args.text.now) (section_at rest) (section_at after) c.loop-line.r c.loop-line.letters.items c.in-Some.line.now _ c.in-Some-read_line.cell
-    c.in-Some-read_line.ensures.is_grid.placed c.loop-line.invariant.read next c.in-Some-read_line.ensures.bad refl
+    up_to-bad c.args.region.now (section_at c.args.text.now) (section_at rest) (section_at after) c.loop-line.r c.loop-line.letters c.in-Some.line.now c.in-Some-read_line.cell
+    c.in-Some-read_line.ensures.is_grid.placed c.loop-line.invariant.read next c.in-Some-read_line.ensures.bad
 
 pub loop-line-preserved : goal.loop-line-preserved
 loop-line-preserved c =
+    let R = c.args.region.now in
     let rest = c.loop-line.rest.now in
     let after = c.next_line.result.1.now in
     let next = subst (λ o. IsNextLine rest (option_copied o) after) c.in-Some.is c.next_line.ensures.next in
@@ -22,7 +23,7 @@ loop-line-preserved c =
     let none = c.in_default-read_line.is in
     record {
       read =
-          up_to-line c.args.region.now (section_at c.args.text.now) (section_at rest) (section_at after) c.loop-line.r c.loop-line.letters.items c.read_line.new.letters.items c.in-Some.line.now _
-          c.read_line.ensures.is_grid.placed c.loop-line.invariant.read next c.read_line.ensures.bad none c.read_line.ensures.size (c.read_line.ensures.read none);
+          up_to-line R (section_at c.args.text.now) (section_at rest) (section_at after) c.loop-line.r c.loop-line.letters c.read_line.new.letters c.in-Some.line.now
+          c.read_line.ensures.is_grid.placed c.loop-line.invariant.read next c.in_default-read_line.ensures.bad c.read_line.auto.letters (c.read_line.ensures.read none);
       within = omega (arith, c.loop-line.invariant.within, shorter);
     }

@@ -6,7 +6,7 @@ use Rattle.tl_tiling.proofs.letters.read_lines.Given as goal
 abbrev pub invariant-loop-line : goal.invariant-loop-line
 invariant-loop-line l =
     record {
-      read : AreReadUpTo l.region (section_at l.fn.text) (section_at l.rest) l.r l.letters.items;
+      read : AreReadUpTo l.region (section_at l.fn.text) (section_at l.rest) l.r l.letters;
       within : l.r + length l.rest ≤ length l.fn.text;
     }
 

@@ -1,15 +1,17 @@
-use Rattle.std.proofs.Common.{◌≡◌, ◌<◌, length, List, map, Some, sym, subst, arith}
+use Rattle.std.proofs.Common.{◌≡◌, ◌<◌, List, length, Some, refl, subst, arith, ap, sym, ◌∙◌}
 use Rattle.std.specs.Prelude.{slice_get}
 use Rattle.std.proofs.lemmas.List.{length-map}
+use Rattle.std.proofs.lemmas.Option.{slice_get_read}
 use Rattle.tl_definitions.specs.Lattice.{Side}
 use Rattle.tl_definitions.specs.Accepted.{circuit_corners}
-use Rattle.tl_grid.specs.Sides.{side_of}
-use Rattle.tl_boundary.proofs.PassedLemmas.{corner-read}
+use Rattle.tl_grid.specs.Sides.{side_by}
+use Rattle.tl_boundary.proofs.TableLemmas.{corner-at}
 use Rattle.tl_boundary.proofs.circuit_type.Circuit.corner.Goals as goal
 
 pub returns : goal.returns
 returns c =
-    let sides = c.self.inside.walk.sides.items in
-    let within : c.args.k < length (map side_of sides) = subst (λ (l : List Side). c.args.k < length l) (sym c.self.view_is) c.requires in
-    subst (λ (l : List Side). slice_get (circuit_corners l) c.args.k ≡ Some c.index.result.now.from) c.self.view_is
-    (corner-read sides c.args.k c.index.result.now (omega (arith, within, length-map sides side_of)) c.index.ensures)
+    let steps = c.self.inside.steps.items in
+    let within : c.args.k < length steps = omega (arith, c.requires, ap length c.self.view_is, length-map steps (side_by c.self.inside.kind)) in
+    subst (λ (l : List Side). slice_get (circuit_corners l) c.args.k ≡ Some (record { r = c.from.result; x = c.from-2.result })) c.self.view_is
+    (corner-at c.self.inside.kind steps c.args.k c.index-step.result.now (slice_get_read steps (length steps) c.args.k _ refl within c.index-step.ensures)
+    ∙ (λ i. Some (record { r = sym c.from.ensures i; x = sym c.from-2.ensures i })))

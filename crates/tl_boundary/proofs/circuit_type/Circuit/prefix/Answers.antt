@@ -1,28 +1,37 @@
-use Rattle.std.proofs.Common.{w64, ◌^◌, ◌≡◌, ℕ, ◌≤◌, ◌<◌, ℤ, pos, neg_ℤ, ◌≤ℤ◌, List, length, map, sym, subst, arith}
-use mir.Val.{to_z, of_z}
+use Rattle.std.proofs.Common.{◌≡◌, ◌+◌, List, ℕ, ℤ, map, length, get_or, ap, ◌∙◌, arith}
 use Rattle.std.proofs.lemmas.Int.{ints}
+use Rattle.std.proofs.lemmas.List.FromFn.{length-map-range_with_len, get_or-map-range_with_len}
 use Rattle.tl_definitions.specs.Lattice.{Side}
+use Rattle.tl_definitions.specs.Region.{Region}
+use Rattle.tl_lists.specs.Lists.{upto}
 use Rattle.tl_definitions.specs.Obstruction.{prefix}
-use Rattle.tl_grid.specs.Sides.{side_of}
+use Rattle.tl_boundary.specs.Walk.{HasTables}
 use Rattle.tl_boundary.proofs.Prefixes.{prefix-small}
-use Rattle.tl_boundary.proofs.PassedLemmas.{prefix-read}
 use Rattle.tl_boundary.proofs.circuit_type.Circuit.prefix.Goals as goal
 
-between : (z a : ℤ) (k : ℕ) → z ≡ a → neg_ℤ (pos k) ≤ℤ a → a ≤ℤ pos k → k < 2 ^ 32 → (neg_ℤ (pos k) ≤ℤ to_z w64 (of_z w64 z)) × (to_z w64 (of_z w64 z) ≤ℤ pos k)
-between z a k e low high few = (omega (arith, ints, e, low, high, few), omega (arith, ints, e, low, high, few))
+-- the sums, of the sides as the caller sees them
+sums-seen : (R : Region) (sides seen : List Side) (sums : List ℤ) (width : ℕ) (numbers : List ℕ) → HasTables R sides sums width numbers → sides ≡ seen
+    → sums ≡ map (prefix seen) (upto (length seen + 1))
+sums-seen R sides seen sums width numbers tables e = tables.prefixes ∙ ap (λ (l : List Side). map (prefix l) (upto (length l + 1))) e
+
+pub index-requires : goal.index-requires
+index-requires c =
+    let (R, tables) = c.self.invariant in
+    let sums = sums-seen R _ c.args.self.now _ _ _ tables c.self.view_is in
+    omega (arith, c.requires, ap length sums, length-map-range_with_len (prefix c.args.self.now) 0 (length c.args.self.now + 1), c.self.inside.prefixes.ok.0)
+
+-- the number that is read
+read : (c : goal.After-result-1) → c.index.result.now ≡ prefix c.args.self.now c.args.k
+read c =
+    let (R, tables) = c.self.invariant in
+    c.index.ensures ∙ ap (λ (l : List ℤ). get_or l c.args.k c.index.result.now) (sums-seen R _ c.args.self.now _ _ _ tables c.self.view_is)
+    ∙ get_or-map-range_with_len (prefix c.args.self.now) 0 (length c.args.self.now + 1) c.args.k c.args.k c.index.result.now (omega (arith, c.requires)) (omega arith)
+
+pub returns-clause-prefix : goal.returns-clause-prefix
+returns-clause-prefix c = let small = prefix-small c.args.self.now c.args.k in omega (arith, ints, read c, small.0, small.1, c.ranges.k.fits)
 
 pub returns-clause-low : goal.returns-clause-low
-returns-clause-low c =
-    let (R, is_grid, circuit, keeps) = c.self.invariant in
-    let sides : List Side = map side_of c.self.inside.walk.sides.items in
-    let within : c.args.k ≤ length sides = subst (λ (l : List Side). c.args.k ≤ length l) (sym c.self.view_is) c.requires in
-    let p = prefix-small sides c.args.k in
-    (between _ (prefix sides c.args.k) c.args.k (prefix-read R sides c.self.inside.walk c.args.k c.index.result.now keeps within c.index.ensures) p.0 p.1 (omega (arith, c.ranges.k.fits))).0
+returns-clause-low c = let small = prefix-small c.args.self.now c.args.k in omega (arith, ints, read c, small.0, small.1, c.ranges.k.fits)
 
 pub returns-clause-high : goal.returns-clause-high
-returns-clause-high c =
-    let (R, is_grid, circuit, keeps) = c.self.invariant in
-    let sides : List Side = map side_of c.self.inside.walk.sides.items in
-    let within : c.args.k ≤ length sides = subst (λ (l : List Side). c.args.k ≤ length l) (sym c.self.view_is) c.requires in
-    let p = prefix-small sides c.args.k in
-    (between _ (prefix sides c.args.k) c.args.k (prefix-read R sides c.self.inside.walk c.args.k c.index.result.now keeps within c.index.ensures) p.0 p.1 (omega (arith, c.ranges.k.fits))).1
+returns-clause-high c = let small = prefix-small c.args.self.now c.args.k in omega (arith, ints, read c, small.0, small.1, c.ranges.k.fits)

@@ -5,17 +5,14 @@ use mir.Val.{SFits}
 use Rattle.tl_definitions.specs.Region.{is_corner_of}
 use Rattle.tl_definitions.specs.Heights.{height}
 use Rattle.tl_height.specs.HeightFunction.{HeightFunction}
-use Rattle.std.specs.Prelude.{List, ℤ, ◌-◌, ◌^◌, ◌≤◌, ◌≤ℤ◌, negsuc}
+use Rattle.std.specs.Prelude.{List, ℤ, ◌≤◌, ◌≤ℤ◌}
 use Rattle.std.proofs.lemmas.Int.{ints}
 use Rattle.std.proofs.Math.Nat.{mul-le-mul}
 use Rattle.tl_definitions.specs.declared.Corner.{Corner}
 use Rattle.tl_definitions.specs.Region.{Region}
 use Rattle.tl_definitions.specs.Accepted.{Accepted, cell_count}
 use Rattle.tl_definitions.specs.Heights.{AreLawful}
-use Rattle.tl_closing.proofs.Bounds.{Within, heights-small}
-use Rattle.tl_closing.proofs.Numbers.{corner-within}
-use Rattle.tl_closing.proofs.Filling.{cells-few}
-use Rattle.tl_closing.proofs.PutNumbers.{place-within}
+use Rattle.tl_closing.proofs.Stated.{Within, heights-small, corner-within, cells-few, place-within}
 use Rattle.tl_height.proofs.heights.Heights.at.Goals as goal
 use Rattle.tl_height.proofs.heights.Heights.at.Goals.{After-columns}
 use Rattle.tl_definitions.specs.declared.TheConstants.{SIDE_LIMIT}

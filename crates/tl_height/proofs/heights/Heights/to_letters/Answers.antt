@@ -11,7 +11,7 @@ use Rattle.tl_definitions.specs.Accepted.{Accepted}
 use Rattle.tl_definitions.specs.Tiling.{is_tiling, partner}
 use Rattle.tl_formats.specs.Drawing.{letter}
 use Rattle.tl_definitions.specs.Heights.{AreHeights, AreLawful}
-use Rattle.tl_closing.proofs.Heights.{has-tiling}
+use Rattle.tl_closing.proofs.Stated.{has-tiling}
 use Rattle.tl_height.specs.HeightFunction.{HeightFunction}
 use Rattle.tl_height.specs.Letters.{row_text, IsDrawnFrom}
 use Rattle.tl_height.proofs.RowLemmas.{rows_more, rows_all}
