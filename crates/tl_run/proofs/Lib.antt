@@ -2,7 +2,6 @@ mod ReaderLemmas
 mod ReplyLemmas
 mod WritingLemmas
 mod RunLemmas
-mod WordLemmas
 mod CheckLemmas
 mod StopLemmas
 mod RunExamples

@@ -8,9 +8,11 @@ use Rattle.tl_formats.specs.declared.TheConstants.{INPUT_LIMIT}
 use Rattle.tl_formats.specs.Input.{first_section, further_section, rest_is_empty}
 use Rattle.tl_formats.specs.RegionText.{RegionRefusal, IsRegionText, IsRefusedText}
 use Rattle.tl_formats.specs.Drawing.{DrawingRefusal, Draws, drawing_refusal}
+use Rattle.tl_definitions.specs.Obstruction.{Obstruction}
+use Rattle.tl_formats.specs.ObstructionText.{first_bad_line, told}
 use Rattle.tl_run.specs.Answers.{Answer, Allows, Is}
-use Rattle.tl_run.specs.Refusals.{input_too_long, extra_text, region_refused}
-use Rattle.tl_run.specs.Readers.{OfInput, RefusesRegion, OfRegion, OfDrawing, AtEnd}
+use Rattle.tl_run.specs.Refusals.{input_too_long, extra_text, region_refused, bad_obstruction}
+use Rattle.tl_run.specs.Readers.{OfInput, RefusesRegion, OfRegion, OfDrawing, RefusesObstruction, OfObstruction, AtEnd}
 use Rattle.tl_run.specs.Reading.{read_fault_status}
 
 -- ---- what is allowed
@@ -51,6 +53,17 @@ OfDrawing-told refused R bytes (Some f) P a e p =
     let s = further_section bytes in
     subst (λ (o : Option DrawingRefusal). MatchOption o ((B : List Tile) × Draws R s.lines B × P B s.rest a) (λ g. Is (refused g) a)) (sym e) p
 
+-- an obstruction's text that was told to be refused
+pub RefusesObstruction-told : (bytes : List ℕ) (line : Option ℕ) (a : Answer) → IfSome line (λ i. first_bad_line (further_section bytes).lines ≡ Some i)
+    → IsSomeAnd line (λ i. Is (bad_obstruction i) a) → RefusesObstruction bytes a
+RefusesObstruction-told bytes None a e p = absurd p
+RefusesObstruction-told bytes (Some i) a e p = (i, e, p)
+
+pub OfObstruction-read : (bytes rest : List ℕ) (o : Obstruction) (P : Obstruction → List ℕ → Allows) (a : Answer)
+    → first_bad_line (further_section bytes).lines ≡ None → told (further_section bytes).lines ≡ Some o → rest ≡ (further_section bytes).rest → P o rest a
+    → OfObstruction bytes P a
+OfObstruction-read bytes rest o P a good tells is p = inr (good, o, tells, subst (λ (r : List ℕ). P o r a) is p)
+
 pub AtEnd-empty : (bytes : List ℕ) (P : Allows) (a : Answer) → rest_is_empty bytes ≡ true → P a → AtEnd bytes P a
 AtEnd-empty bytes P a e p = subst (λ (b : Bool). MatchBool b (P a) (Is extra_text a)) (sym e) p
 
@@ -86,6 +99,11 @@ OfDrawing-heard refused R bytes P a told next p = go (drawing_refusal R (further
         → MatchOption o ((A : List Tile) × Draws R (further_section bytes).lines A × P A (further_section bytes).rest a) (λ f. Is (refused f) a) → IsHeard a
     go None (A, d, q) = next A (further_section bytes).rest q
     go (Some f) e = Is-heard (refused f) a (told f) e
+
+pub OfObstruction-heard : (bytes : List ℕ) (P : Obstruction → List ℕ → Allows) (a : Answer) → ((o : Obstruction) (rest : List ℕ) → P o rest a → IsHeard a)
+    → OfObstruction bytes P a → IsHeard a
+OfObstruction-heard bytes P a next (inl (i, t, e)) = Is-heard (bad_obstruction i) a refl e
+OfObstruction-heard bytes P a next (inr (good, o, t, p)) = next o (further_section bytes).rest p
 
 pub AtEnd-heard : (bytes : List ℕ) (P : Allows) (a : Answer) → (P a → IsHeard a) → AtEnd bytes P a → IsHeard a
 AtEnd-heard bytes P a next p = go (rest_is_empty bytes) p

@@ -11,6 +11,10 @@ pub IfRefused-weaker : (stop : Stop) (P Q : Allows) → ((a : Answer) → P a �
 IfRefused-weaker (Refused reply) P Q f p = f _ p
 IfRefused-weaker Memory P Q f p = tt
 
+pub IfMade-weaker : (made : Result Reply Stop) (P Q : Allows) → ((a : Answer) → P a → Q a) → IfMade made P → IfMade made Q
+IfMade-weaker (Ok reply) P Q f p = f _ p
+IfMade-weaker (Err stop) P Q f p = IfRefused-weaker stop P Q f p
+
 -- what `?` hands on
 pub IfMade-passed : (made : Result Reply Stop) (stop : Stop) (P : Allows) → IsErrAnd made (λ s. s ≡ stop) → IfRefused stop P → IfMade made P
 IfMade-passed (Ok reply) stop P is p = absurd is

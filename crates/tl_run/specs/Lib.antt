@@ -2,6 +2,7 @@ pub mod Answers
 pub mod Refusals
 pub mod Readers
 pub mod Check
+pub mod Refute
 pub mod Replies
 pub mod Reading
 pub mod Writing

@@ -1,14 +1,16 @@
 -- Readers of an input: each hands on what it read and the bytes that follow, or its refusal is the answer. So the order
 -- of refusals is the order in which readers stand inside one another.
-use Rattle.std.specs.Prelude.{◌⊎◌, ℕ, nat_lt, List, length, MatchBool, MatchOption}
+use Rattle.std.specs.Prelude.{◌≡◌, ◌⊎◌, ℕ, Some, None, nat_lt, List, length, MatchBool, MatchOption}
 use Rattle.tl_definitions.specs.declared.Tile.{Tile}
 use Rattle.tl_definitions.specs.Region.{Region}
 use Rattle.tl_formats.specs.Input.{first_section, further_section, rest_is_empty}
 use Rattle.tl_formats.specs.declared.TheConstants.{INPUT_LIMIT}
 use Rattle.tl_formats.specs.RegionText.{RegionRefusal, IsRegionText, IsRefusedText}
 use Rattle.tl_formats.specs.Drawing.{DrawingRefusal, drawing_refusal, Draws}
+use Rattle.tl_definitions.specs.Obstruction.{Obstruction}
+use Rattle.tl_formats.specs.ObstructionText.{first_bad_line, told}
 use Rattle.tl_run.specs.Answers.{Answer, Allows, Is}
-use Rattle.tl_run.specs.Refusals.{input_too_long, extra_text, region_refused}
+use Rattle.tl_run.specs.Refusals.{input_too_long, extra_text, region_refused, bad_obstruction}
 
 -- an input, where it isn't too long
 abbrev pub OfInput : List ℕ → Allows → Allows
@@ -31,6 +33,18 @@ OfDrawing refused R bytes P a =
     MatchOption (drawing_refusal R s.lines)
     ((A : List Tile) × Draws R s.lines A × P A s.rest a)
     (λ f. Is (refused f) a)
+
+-- a line of the further section is wrong, missing or too much
+abbrev pub RefusesObstruction : List ℕ → Allows
+RefusesObstruction bytes a =
+    (i : ℕ) × (first_bad_line (further_section bytes).lines ≡ Some i) × Is (bad_obstruction i) a
+
+-- the obstruction that a further section tells
+abbrev pub OfObstruction : List ℕ → (Obstruction → List ℕ → Allows) → Allows
+OfObstruction bytes P a =
+    let s = further_section bytes in
+    RefusesObstruction bytes a
+    ⊎ ((first_bad_line s.lines ≡ None) × (o : Obstruction) × (told s.lines ≡ Some o) × P o s.rest a)
 
 -- the end of the input: only line ends stand there
 abbrev pub AtEnd : List ℕ → Allows → Allows

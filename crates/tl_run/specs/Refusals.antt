@@ -46,6 +46,10 @@ drawing_refusal_text n (unmatched a) = line (codes "drawing" ∷ decimal n ∷ c
 abbrev pub drawing_refused : ℕ → DrawingRefusal → Answer
 drawing_refused n f = answer (drawing_refusal_text n f) 3
 
+-- the line of the obstruction's text that is wrong, missing or too much
+abbrev pub bad_obstruction : ℕ → Answer
+bad_obstruction i = answer (line (codes "bad obstruction" ∷ decimal i ∷ [])) 3
+
 -- `check` asks whether the cells of its drawing are matched, and so an unmatched one is its answer no.
 abbrev pub check_refused : DrawingRefusal → Answer
 check_refused (bad_letter a) = drawing_refused 1 (bad_letter a)

@@ -5,12 +5,12 @@ mod check;
 mod command_line;
 mod readers;
 mod refusals;
+mod refute;
 mod reply;
 mod run;
 mod status;
 #[cfg(test)]
 mod tests;
-mod words;
 mod writers;
 
 pub use command_line::run_process;

@@ -1,19 +1,20 @@
 //! What the commands read of an input, one after the other.
 
-ghost use Rattle.std.specs.Prelude.{◌≡◌, ◌≤◌, true, false, length, IfOk, IfErr, OnOk, OnErr};
+ghost use Rattle.std.specs.Prelude.{◌≡◌, ◌≤◌, None, Some, true, false, length, IfOk, IfErr, OnOk, OnErr};
 ghost use Rattle.tl_formats.specs.Input.{first_section, further_section, rest_is_empty};
 ghost use Rattle.tl_formats.specs.RegionText.{IsRegionText};
-ghost use Rattle.tl_formats.specs.Drawing.{Draws, drawing_refusal};
-ghost use Rattle.tl_tiling.specs.Refusals.{refusal_by};
+ghost use Rattle.tl_formats.specs.ObstructionText.{first_bad_line, told};
+ghost use Rattle.tl_obstruction.specs.Told.{told_by};
 ghost use Rattle.tl_run.specs.Answers.{Is};
 ghost use Rattle.tl_run.specs.Refusals as answers;
-ghost use Rattle.tl_run.specs.Readers.{RefusesRegion};
+ghost use Rattle.tl_run.specs.Readers.{RefusesRegion, RefusesObstruction};
 ghost use Rattle.tl_run.specs.Replying.{IfRefused};
 
-use crate::refusals::{extra_text, region_refused};
+use crate::refusals::{extra_text, obstruction_refused, region_refused};
 use crate::reply::Stop;
 use std::alloc::Global;
 use tl_formats::INPUT_LIMIT;
+use tl_obstruction::{Obstruction, read_obstruction};
 use tl_region::{Region, read_region, rest_is_empty};
 
 /// The region of the first section, and the bytes that follow it.
@@ -27,6 +28,20 @@ pub fn region_of(alloc: Global, input: &[u8]) -> Result<(Region, &[u8]), Stop>
     match read_region(alloc, input) {
         Ok((region, taken)) => Ok((region, input.split_at(taken).1)),
         Err(fault) => Err(region_refused(alloc, fault)),
+    }
+}
+
+/// The obstruction of a further section, and the bytes that follow it.
+pub fn obstruction_of(alloc: Global, bytes: &[u8]) -> Result<(Obstruction, &[u8]), Stop>
+    requires { length bytes.now ≤ INPUT_LIMIT }
+    ensures good { OnOk result (first_bad_line (further_section bytes.now).lines ≡ None) }
+    ensures told { IfOk result (λ p. told (further_section bytes.now).lines ≡ Some (told_by p.0)) }
+    ensures rest { IfOk result (λ p. p.1.now ≡ (further_section bytes.now).rest) }
+    ensures refused { IfErr result (λ stop. IfRefused stop (RefusesObstruction bytes.now)) }
+{
+    match read_obstruction(alloc, bytes) {
+        Ok((told, taken)) => Ok((told, bytes.split_at(taken).1)),
+        Err(fault) => Err(obstruction_refused(alloc, fault)),
     }
 }
 

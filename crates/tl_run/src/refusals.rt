@@ -4,6 +4,7 @@ ghost use Rattle.std.specs.Prelude.{◌≡◌, IfOk, IsSomeAnd};
 ghost use Rattle.tl_formats.specs.RegionText;
 ghost use Rattle.tl_formats.specs.Drawing;
 ghost use Rattle.tl_region.specs.Refusals.{refusal_by as region_refusal_by};
+ghost use Rattle.tl_obstruction.specs.Lines.{line_by};
 ghost use Rattle.tl_tiling.specs.Refusals.{refusal_by as drawing_refusal_by};
 ghost use Rattle.tl_run.specs.Answers.{Is};
 ghost use Rattle.tl_run.specs.Refusals as answers;
@@ -13,6 +14,7 @@ use crate::reply::{Reply, Stop};
 use crate::status::Status;
 use std::alloc::{AllocError, Global};
 use tl_lattice::{Cell, Corner};
+use tl_obstruction::TextFault;
 use tl_region::RegionFault;
 use tl_tiling::DrawFault;
 
@@ -92,6 +94,35 @@ pub fn region_refused(alloc: Global, fault: RegionFault) -> Stop
         (λ f. Is (answers.region_refused f) a)) }
 {
     match region_reply(alloc, fault) {
+        Ok(reply) => Stop::Refused(reply),
+        Err(AllocError) => Stop::Memory,
+    }
+}
+
+fn bad_obstruction(alloc: Global, line: u32) -> Result<Reply, AllocError>
+    ensures { IfOk result (λ reply. answer_of reply ≡ answers.bad_obstruction line) }
+{
+    Ok(Reply::made(
+        format!(in alloc; "bad obstruction {line}\n")?,
+        Status::Input,
+    ))
+}
+
+fn obstruction_reply(alloc: Global, fault: TextFault) -> Result<Reply, AllocError>
+    ensures { IfOk result (λ reply. IsSomeAnd (line_by fault)
+        (λ i. answer_of reply ≡ answers.bad_obstruction i)) }
+{
+    match fault {
+        TextFault::BadLine(line) => bad_obstruction(alloc, line),
+        TextFault::OutOfMemory => Err(AllocError),
+    }
+}
+
+/// The text of the obstruction is refused.
+pub fn obstruction_refused(alloc: Global, fault: TextFault) -> Stop
+    ensures { IfRefused result (λ a. IsSomeAnd (line_by fault) (λ i. Is (answers.bad_obstruction i) a)) }
+{
+    match obstruction_reply(alloc, fault) {
         Ok(reply) => Stop::Refused(reply),
         Err(AllocError) => Stop::Memory,
     }

@@ -1,21 +1,29 @@
 //! One run of the program.
 
-ghost use Rattle.std.specs.Prelude.{◌≡◌, ◌≤◌, length, map, false, IsTrue};
-ghost use Rattle.tl_run.specs.Replies.{Answers, asked, meaning_of, reads_input, takes_memory_first};
+ghost use Rattle.std.specs.Prelude.{◌≡◌, ◌≤◌, length, map, false, true, IsTrue};
+ghost use Rattle.tl_run.specs.Replies.{Answers, IsAbsent, asked, meaning_of, reads_input, takes_memory_first};
 ghost use Rattle.tl_run.specs.Runs.{IsRun, Runs};
 ghost use Rattle.tl_run.specs.Statuses.{code_of};
 ghost use Rattle.tl_run.specs.Writing.{Writing};
 
 use crate::check::check;
 use crate::refusals::{input_too_long, read_fault, usage};
+use crate::refute::refute;
 use crate::status::Status;
-use crate::words::read_words;
 use crate::writers::{write_made, write_reply};
 use std::alloc::Global;
 use std::thread::Threads;
 use tl_formats::INPUT_LIMIT;
 use tl_io::{Gate, InFault, Sink, Source, read_all};
-use tl_text::Command;
+use tl_text::{Command, WordsFault, read_words};
+
+// Whether the program has the command already.
+fn is_there(command: Command) -> bool
+    ensures there { result ≡ true → IsTrue (reads_input (meaning_of command)) }
+    ensures absent { result ≡ false → IsAbsent (meaning_of command) }
+{
+    matches!(command, Command::Check | Command::Refute)
+}
 
 // Answers an input: an arm for each command.
 fn answer_input<K: Sink>(alloc: Global, command: Command, input: &[u8], sink: &mut K) -> Status
@@ -25,6 +33,7 @@ fn answer_input<K: Sink>(alloc: Global, command: Command, input: &[u8], sink: &m
 {
     match command {
         Command::Check => write_made(sink, &check(alloc, input)),
+        Command::Refute => write_made(sink, &refute(alloc, input)),
         _ => write_reply(sink, &usage()),
     }
 }
@@ -61,8 +70,10 @@ pub fn run_quiet<R: Threads, S: Source, K: Sink + Send, G: Gate + Sync>(
         (K.state sink.old) (K.state sink.new) (code_of result) }
     ensures untouched { reads_input (asked (map (λ w. w.now) words.now)) ≡ false → source.new ≡ source.old }
 {
-    match read_words(words) {
-        Some(command) => hear(alloc, command, source, sink),
-        None => write_reply(sink, &usage()),
+    match read_words(alloc, words) {
+        Ok(command) if is_there(command) => hear(alloc, command, source, sink),
+        Ok(_) => write_reply(sink, &usage()),
+        Err(WordsFault::Usage) => write_reply(sink, &usage()),
+        Err(WordsFault::OutOfMemory) => Status::OutOfMemory,
     }
 }

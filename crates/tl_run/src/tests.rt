@@ -15,13 +15,22 @@ const USAGE: &[u8] = b"usage: tilings check | decide | refute | flips | distance
        tilings gen --shape aztec|hexagon|staircase|hourglass --order N [--summary] [options of sample]
 ";
 
-// The status of `check` on an input, and what it wrote.
-fn check<R: Threads>(rt: &R, alloc: Global, input: &[u8]) -> Result<(Status, MemSink), AllocError> {
+// The status of a command on an input, and what it wrote.
+fn answered<R: Threads>(
+    rt: &R,
+    alloc: Global,
+    command: &str,
+    input: &[u8],
+) -> Result<(Status, MemSink), AllocError> {
     let bytes = Vec::from_slice(alloc, input)?;
     let mut source = MemSource::new(bytes, 3, Vec::new(alloc));
     let mut sink = MemSink::new(alloc, 300, 7, Vec::new(alloc))?;
-    let status = run_quiet(rt, alloc, &["check"], &mut source, &mut sink, &FreeGate);
+    let status = run_quiet(rt, alloc, &[command], &mut source, &mut sink, &FreeGate);
     Ok((status, sink))
+}
+
+fn check<R: Threads>(rt: &R, alloc: Global, input: &[u8]) -> Result<(Status, MemSink), AllocError> {
+    answered(rt, alloc, "check", input)
 }
 
 #[test]
@@ -146,6 +155,79 @@ fn each_input_has_its_first_refusal(rt: HostRuntime) -> Result<(), AllocError> {
 }
 
 #[test]
+fn a_reason_without_a_tiling_holds_or_doesnt(rt: HostRuntime) -> Result<(), AllocError> {
+    let cases: [(&[u8], &[u8], Status); 13] = [
+        (
+            b"square\n.#..\n####\n..#.\n\nnone gap 5 1\n2 2\n1 2\n",
+            b"refuted\n",
+            Status::Answered,
+        ),
+        (
+            b"square\n.#..\n####\n..#.\n\nnone gap 5 1\n1 2\n2 2\n",
+            b"not refuted\n",
+            Status::Refuted,
+        ),
+        (
+            b"square\n.#..\n####\n..#.\n\nnone gap 5 1\n2 2\n",
+            b"bad obstruction 3\n",
+            Status::Input,
+        ),
+        (
+            b"square\n##\n##\n\nnone open 4\n",
+            b"not refuted\n",
+            Status::Refuted,
+        ),
+        (
+            b"square\n#\n\nnone open 4\n",
+            b"refuted\n",
+            Status::Answered,
+        ),
+        (
+            b"square\n##\n##\n\nnone open 0\n",
+            b"not refuted\n",
+            Status::Refuted,
+        ),
+        (
+            b"square\n..##.\n..###\n..###\n..#..\n\nnone gap 5 1\n0 3\n0 2\n",
+            b"refuted\n",
+            Status::Answered,
+        ),
+        (
+            b"square\n##\n##\n\nnone open -0\n",
+            b"bad obstruction 1\n",
+            Status::Input,
+        ),
+        (
+            b"square\n##\n##\n\nnone  open 4\n",
+            b"bad obstruction 1\n",
+            Status::Input,
+        ),
+        (
+            b"square\n##\n##\n\nnone open 4\n0 0\n",
+            b"bad obstruction 2\n",
+            Status::Input,
+        ),
+        (b"square\n##\n##\n", b"bad obstruction 1\n", Status::Input),
+        (
+            b"square\n##\n##\n\nnone open 4\n\nx",
+            b"extra text\n",
+            Status::Input,
+        ),
+        (
+            b"square\n#x\n\nnone open 4\n",
+            b"bad byte 0 1\n",
+            Status::Input,
+        ),
+    ];
+    for (input, reply, wanted) in cases {
+        let (status, sink) = answered(&rt, rt.alloc(), "refute", input)?;
+        assert_eq!(rt; status, wanted, "{input:?}");
+        assert_eq!(rt; sink.held(), reply, "{input:?}");
+    }
+    Ok(())
+}
+
+#[test]
 fn a_region_has_at_most_512_rows_and_columns(rt: HostRuntime) -> Result<(), AllocError> {
     let head = b"square\n".as_slice();
     let cases: [(usize, &[u8]); 2] = [
@@ -192,14 +274,17 @@ fn an_input_has_at_most_four_mebibytes(rt: HostRuntime) -> Result<(), AllocError
 }
 
 #[test]
-fn words_that_are_no_command_leave_the_source(rt: HostRuntime) -> Result<(), AllocError> {
-    let lines: [&[&str]; 6] = [
+fn words_without_an_answer_leave_the_source(rt: HostRuntime) -> Result<(), AllocError> {
+    let lines: [&[&str]; 9] = [
         &[],
         &[""],
         &["Check"],
         &["check", "check"],
         &["check", "--seed", "1"],
         &["--help"],
+        &["decide"],
+        &["sample", "--seed", "1"],
+        &["gen", "--shape=aztec", "--order=2"],
     ];
     for words in lines {
         let bytes = Vec::from_slice(rt.alloc(), b"abc")?;

@@ -1,2 +1,4 @@
 pub mod Words
 pub mod Shapes
+pub mod Given
+pub mod SampleLine

@@ -1,6 +1,20 @@
 //! The words of the command line, and the shapes of generated regions.
 #![tactic(auto)]
 
+mod fault;
+mod settings;
+mod shapes;
+#[cfg(test)]
+mod tests;
+mod text;
+mod values;
+mod words;
+
+pub use fault::WordsFault;
+pub use shapes::shape_text;
+pub use text::{Text, sample_head};
+pub use words::read_words;
+
 /// What `sample` is asked for.
 #[derive(Clone, Copy, PartialEq, Eq, Debug)]
 pub struct SampleJob {

@@ -1,7 +1,8 @@
 use Rattle.std.proofs.Common.{sym, subst}
 use Rattle.tl_text.specs.declared.Command.{Command}
-use Rattle.tl_text.specs.declared.Command.TheVariants.{Check}
+use Rattle.tl_text.specs.declared.Command.TheVariants.{Check, Refute}
 use Rattle.tl_run.specs.Check.{CheckReply}
+use Rattle.tl_run.specs.Refute.{RefuteReply}
 use Rattle.tl_run.specs.Replies.{Answers, meaning_of, takes_memory_first}
 use Rattle.tl_run.specs.Replying.{Makes}
 use Rattle.tl_run.specs.Statuses.{code_of}
@@ -19,3 +20,12 @@ returns-in-Check g c =
     (sym c.in-Check.is)
     (Writing-weaker (Makes c.check.result) (Answers (meaning_of Check) input) (takes_memory_first Check) _ _ _
     (λ a p. OfInput-short input (CheckReply input) a c.requires (Makes-allowed c.check.result (CheckReply input) c.check.ensures a p)) c.write_made.ensures)
+
+pub returns-in-Refute : goal.returns-in-Refute
+returns-in-Refute g c =
+    let input = c.args.input.now in
+    subst
+    (λ (k : Command). Writing (Answers (meaning_of k) input) (takes_memory_first k) (g.K.Sink.state c.args.sink.now) (g.K.Sink.state c.write_made-in-Refute.new.sink) (code_of c.write_made-in-Refute.result))
+    (sym c.in-Refute.is)
+    (Writing-weaker (Makes c.refute.result) (Answers (meaning_of Refute) input) (takes_memory_first Refute) _ _ _
+    (λ a p. OfInput-short input (RefuteReply input) a c.requires (Makes-allowed c.refute.result (RefuteReply input) c.refute.ensures a p)) c.write_made-in-Refute.ensures)

@@ -1,0 +1,4 @@
+mod AlongPaths
+mod Gaps
+mod Words
+mod Paths
