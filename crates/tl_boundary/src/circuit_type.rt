@@ -2,6 +2,7 @@
 
 ghost use Rattle.std.specs.Prelude.{◌≡◌, ◌<◌, ◌≤◌, length, map, position, slice_get, option_map, pos, ◌-ℤ◌, ◌*ℤ◌, ◌≤ℤ◌, neg_ℤ, Some};
 ghost use Rattle.tl_definitions.specs.Lattice.{corner_eq, rise};
+ghost use Rattle.tl_definitions.specs.Limits.{most_corners};
 ghost use Rattle.tl_definitions.specs.Region.{Region};
 ghost use Rattle.tl_definitions.specs.Accepted.{IsPlaced, IsCircuit, circuit_corners};
 ghost use Rattle.tl_definitions.specs.Obstruction.{sign as sign_of, prefix as prefix_of, total as total_of};
@@ -51,7 +52,8 @@ pub(crate) fn sign(kind: Kind, step: BoundaryStep) -> i8
 impl Circuit {
     /// How many sides it has, and corners.
     pub fn len(&self) -> u32
-        ensures { result ≡ length self.now }
+        ensures len { result ≡ length self.now }
+        ensures few { result ≤ most_corners }
     {
         self.steps.len() as u32
     }

@@ -61,26 +61,26 @@ module _ (R : Region) (once : Distinct R.cells) where
 
 -- ---- along the walk
 
+-- each side ends where the next begins, and the last at z
+abbrev pub GoesTo : Side → List Side → Corner → Type 0
+GoesTo s ss z = map (λ s. s.to) (s ∷ ss) ≡ map (λ s. s.from) ss ++ (z ∷ [])
+
+head_same : (x y : Corner) (xs ys : List Corner) → x ∷ xs ≡ y ∷ ys → x ≡ y
+head_same x y xs ys e = cc e
+
+tail_same : (x y : Corner) (xs ys : List Corner) → x ∷ xs ≡ y ∷ ys → xs ≡ ys
+tail_same x y xs ys e = cc e
+
+pub next : (s t : Side) (ss : List Side) (z : Corner) → GoesTo s (t ∷ ss) z → (s.to ≡ t.from) × GoesTo t ss z
+next s t ss z e = (
+  head_same s.to t.from (map (λ s. s.to) (t ∷ ss)) (map (λ s. s.from) ss ++ (z ∷ [])) e,
+  tail_same s.to t.from (map (λ s. s.to) (t ∷ ss)) (map (λ s. s.from) ss ++ (z ∷ [])) e,
+)
+
 module _ (h : Corner → ℤ) where
   -- the function rises by the sign of the side
   abbrev pub RisesAt : Side → Type 0
   RisesAt s = h s.to ≡ h s.from +ℤ sign s
-
-  -- each side ends where the next begins, and the last at z
-  abbrev GoesTo : Side → List Side → Corner → Type 0
-  GoesTo s ss z = map (λ s. s.to) (s ∷ ss) ≡ map (λ s. s.from) ss ++ (z ∷ [])
-
-  head_same : (x y : Corner) (xs ys : List Corner) → x ∷ xs ≡ y ∷ ys → x ≡ y
-  head_same x y xs ys e = cc e
-
-  tail_same : (x y : Corner) (xs ys : List Corner) → x ∷ xs ≡ y ∷ ys → xs ≡ ys
-  tail_same x y xs ys e = cc e
-
-  next : (s t : Side) (ss : List Side) (z : Corner) → GoesTo s (t ∷ ss) z → (s.to ≡ t.from) × GoesTo t ss z
-  next s t ss z e = (
-    head_same s.to t.from (map (λ s. s.to) (t ∷ ss)) (map (λ s. s.from) ss ++ (z ∷ [])) e,
-    tail_same s.to t.from (map (λ s. s.to) (t ∷ ss)) (map (λ s. s.from) ss ++ (z ∷ [])) e,
-  )
 
   prefixes : (ss : List Side) (s : Side) (z : Corner) → GoesTo s ss z → ((t : Side) → In t (s ∷ ss) → RisesAt t)
       → (k : ℕ) (v : Corner) → slice_get (map (λ s. s.from) (s ∷ ss)) k ≡ Some v → h v ≡ h s.from +ℤ int_sum (map sign (take k (s ∷ ss)))

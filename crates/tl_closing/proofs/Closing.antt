@@ -14,7 +14,8 @@ use Rattle.tl_definitions.proofs.Corners.{corner_eq-same, corner_eq-refl}
 use Rattle.tl_closing.specs.Closing.{steps_round, ClosesRoundCells, IsPotential, HasOnePotential}
 use Rattle.tl_closing.proofs.Merge.{merged}
 use Rattle.tl_definitions.proofs.Steps.{step-move}
-use Rattle.tl_closing.proofs.Residues.{residue, residue-move}
+use Rattle.tl_closing.specs.Residues.{residue}
+use Rattle.tl_closing.proofs.Residues.{residue-move}
 use Rattle.tl_closing.proofs.Sides.{left_here, others_here, corners-table, steps-table, others-later, SameStep, same_step}
 use Rattle.tl_closing.proofs.Shared.{neighbours-share, Share}
 use Rattle.tl_closing.proofs.Edges.{round-step, round-corners, Step, vertices, tree_part, left_steps, has-In, In-has, corner_of-parts, is_step-parts, is_step-from, cell-within, Distinct-vertices, In-tree_part, length-tree_part}

@@ -31,3 +31,5 @@ mod Colours
 mod Filling
 mod OnCircuit
 mod PutNumbers
+mod CircuitResidues
+mod HandedOn

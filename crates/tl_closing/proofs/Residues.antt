@@ -1,16 +1,12 @@
 -- The residue of a corner, which rises by 1 along each directed step.
-use Rattle.std.proofs.Common.{◌≡◌, ℕ, ◌+◌, ◌-◌, ◌*◌, ◌%◌, ◌⊎◌, inl, inr, true, false, refl, arith, eqb}
-use Rattle.std.specs.Prelude.{◌==◌, if◌then◌else◌}
+use Rattle.std.proofs.Common.{◌≡◌, ℕ, ◌+◌, ◌-◌, ◌%◌, ◌⊎◌, inl, inr, true, false, refl, arith, eqb}
 use Rattle.std.proofs.lemmas.Bool.{eqb-true, eqb-false, eq-eqb, ne_eqb, cases_Bool}
 use Rattle.tl_definitions.specs.declared.Kind.{Kind}
 use Rattle.tl_definitions.specs.declared.Kind.TheVariants.{Square, Triangle}
 use Rattle.tl_definitions.specs.declared.Corner.{Corner}
 use Rattle.tl_definitions.specs.Lattice.{rise}
 use Rattle.tl_definitions.proofs.Steps.{IsStepOut, IsMove, step-move}
-
-abbrev pub residue : Kind → Corner → ℕ
-residue Square v = if v.x % 2 == 0 then v.r % 2 else 3 - v.r % 2
-residue Triangle v = (2 * v.x) % 3
+use Rattle.tl_closing.specs.Residues.{residue}
 
 residue-even : (v : Corner) → v.x % 2 ≡ 0 → residue Square v ≡ v.r % 2
 residue-even v e = rw (eq-eqb (v.x % 2) 0 e) refl

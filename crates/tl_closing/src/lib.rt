@@ -4,7 +4,7 @@
 //! `docs/CLOSING.md` tells the proofs.
 #![tactic(auto)]
 
-ghost use Rattle.std.specs.Prelude.{◌≡◌, ◌≢◌, ◌⊎◌, not, [], ◌∷◌, ℕ, slice_get, Some, ◌<◌, length, ◌+◌, ◌-◌, ◌*◌, List, map, ℤ, pos, negsuc, ◌+ℤ◌, ◌-ℤ◌, ◌*ℤ◌, ◌≤ℤ◌, IsTrue};
+ghost use Rattle.std.specs.Prelude.{◌≡◌, ◌≢◌, ◌⊎◌, Bool, not, [], ◌∷◌, ℕ, slice_get, Some, ◌<◌, length, ◌+◌, ◌-◌, ◌*◌, ◌%◌, List, map, ℤ, pos, negsuc, ◌+ℤ◌, ◌-ℤ◌, ◌*ℤ◌, ◌≤ℤ◌, IsTrue};
 ghost use Rattle.std.specs.List.{list_any, list_all};
 ghost use Rattle.tl_definitions.specs.declared.Kind.{Kind};
 ghost use Rattle.tl_definitions.specs.declared.Corner.{Corner};
@@ -12,12 +12,13 @@ ghost use Rattle.tl_definitions.specs.declared.Tile.{Tile};
 ghost use Rattle.tl_definitions.specs.Lattice.{corner_eq, class_of, rise, steps_in, steps_out, Side};
 ghost use Rattle.tl_definitions.specs.Region.{Region, is_corner_of, is_inner, is_step, inner_corners};
 ghost use Rattle.tl_definitions.specs.Accepted.{Accepted, IsPlaced, IsCircuit, circuit_corners, cell_count};
-ghost use Rattle.tl_definitions.specs.Obstruction.{sign, total};
+ghost use Rattle.tl_definitions.specs.Obstruction.{sign, prefix, total};
 ghost use Rattle.tl_lists.specs.Lists.{int_sum, present, put_at};
 ghost use Rattle.tl_definitions.specs.Tiling.{is_tiling};
 ghost use Rattle.tl_definitions.specs.Heights.{height, AreHeights, AreHeightsOf, AreLawful};
 ghost use Rattle.tl_definitions.specs.Flip.{stands_high, stands_low, flip};
 ghost use Rattle.tl_closing.specs.Changed.{IsChangedAt};
+ghost use Rattle.tl_closing.specs.Residues.{residue};
 ghost use Rattle.tl_closing.specs.Standing.{falls_from, falls_to};
 ghost use Rattle.tl_closing.specs.Closing.{ClosesRoundCells, IsPotential, HasOnePotential};
 ghost use Rattle.tl_closing.specs.Colours.{dark_count, light_count};
@@ -146,4 +147,23 @@ pub fn total_by_colours()
         ≡ pos (rise R.kind) *ℤ (pos (dark_count R) -ℤ pos (light_count R)) }
     ensures along { (R : Region) (walk : List Side) → IsPlaced R → IsCircuit R walk
         → int_sum (map sign walk) ≡ total R }
+{}
+
+/// The residue of a corner rises by 1, modulo the rise of a flip, along each step of the region. The prefixes along the
+/// circuit are the differences of residues, up to a multiple of the rise.
+pub fn residues_of_corners()
+    ensures along_step { (R : Region) (u v : Corner) → IsTrue (is_step R u v)
+        → residue R.kind v ≡ (residue R.kind u + 1) % rise R.kind }
+    ensures along_circuit { (R : Region) (walk : List Side) (k : ℕ) (start v : Corner) → IsPlaced R → IsCircuit R walk
+        → slice_get (circuit_corners walk) 0 ≡ Some start → slice_get (circuit_corners walk) k ≡ Some v
+        → (m : ℤ) × (prefix walk k ≡ (pos (residue R.kind v) -ℤ pos (residue R.kind start)) +ℤ (pos (rise R.kind) *ℤ m)) }
+{}
+
+/// From each corner of an accepted region directed steps lead to every other: what each step hands on holds at all
+/// corners where it holds at one.
+pub fn steps_hand_on()
+    ensures { (R : Region) (holds : Corner → Bool) (v w : Corner) → Accepted R
+        → ((u t : Corner) → IsTrue (is_step R u t) → IsTrue (holds u) → IsTrue (holds t))
+        → IsTrue (is_corner_of R v) → IsTrue (is_corner_of R w) → IsTrue (holds v)
+        → IsTrue (holds w) }
 {}

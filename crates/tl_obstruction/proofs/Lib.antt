@@ -1,4 +1,4 @@
-mod AlongPaths
-mod Gaps
+pub mod AlongPaths
+pub mod Gaps
 mod Words
 mod Paths

@@ -9,6 +9,7 @@ use Rattle.tl_run.specs.Answers.{Answer, Is}
 use Rattle.tl_run.specs.Refusals.{usage, check_refused}
 use Rattle.tl_run.specs.Readers.{AtEnd}
 use Rattle.tl_run.specs.Check.{yes, DrawingReply, CheckReply}
+use Rattle.tl_run.specs.Decide.{tiled, blocked, Decided, RegionReply, DecideReply}
 use Rattle.tl_run.specs.Refute.{refuted, not_refuted, Judged, ReasonReply, RefuteReply}
 use Rattle.tl_run.specs.Replies.{meaning_of, Answers}
 use Rattle.tl_run.proofs.ReaderLemmas.{IsHeard, Is-heard, OfInput-heard, OfRegion-heard, OfDrawing-heard, OfObstruction-heard, AtEnd-heard}
@@ -23,6 +24,15 @@ CheckReply-heard : (input : List ℕ) (a : Answer) → CheckReply input a → Is
 CheckReply-heard input a =
     OfRegion-heard input DrawingReply a
     (λ R rest. OfDrawing-heard check_refused R rest (λ A end. AtEnd end (Is yes)) a check_refused-heard (λ A end. AtEnd-heard end (Is yes) a (Is-heard yes a refl)))
+
+-- ---- decide
+
+Decided-heard : (R : Region) (a : Answer) → Decided R a → IsHeard a
+Decided-heard R a (inl (A, top, e)) = Is-heard (tiled R A) a refl e
+Decided-heard R a (inr (o, reason, e)) = Is-heard (blocked o) a refl e
+
+DecideReply-heard : (input : List ℕ) (a : Answer) → DecideReply input a → IsHeard a
+DecideReply-heard input a = OfRegion-heard input RegionReply a (λ R rest. AtEnd-heard rest (Decided R) a (Decided-heard R a))
 
 -- ---- refute
 
@@ -40,7 +50,7 @@ RefuteReply-heard input a =
 -- no command is answered with the status of a failed read
 pub Answers-heard : (c : Command) (input : List ℕ) (a : Answer) → Answers (meaning_of c) input a → IsHeard a
 Answers-heard Check input a = OfInput-heard input (CheckReply input) a (CheckReply-heard input a)
-Answers-heard Decide input a = Is-heard usage a refl
+Answers-heard Decide input a = OfInput-heard input (DecideReply input) a (DecideReply-heard input a)
 Answers-heard Refute input a = OfInput-heard input (RefuteReply input) a (RefuteReply-heard input a)
 Answers-heard Flips input a = Is-heard usage a refl
 Answers-heard Distance input a = Is-heard usage a refl

@@ -9,3 +9,4 @@ pub mod Writing
 pub mod Runs
 pub mod Statuses
 pub mod Replying
+pub mod Decide

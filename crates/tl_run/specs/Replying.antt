@@ -1,6 +1,6 @@
 -- The answers that replies of the code are.
 use Rattle.std.specs.Prelude.{Result, Ok, Err}
-use Rattle.std.specs.Cow.{cow_str_bytes}
+use Rattle.std.specs.Cow.{cow_slice_items}
 use Rattle.tl_run.specs.declared.reply.Reply.{Reply}
 use Rattle.tl_run.specs.declared.reply.Stop.{Stop}
 use Rattle.tl_run.specs.declared.reply.Stop.TheVariants.{Refused, Memory}
@@ -8,7 +8,7 @@ use Rattle.tl_run.specs.Answers.{Answer, answer, Allows, Is}
 use Rattle.tl_run.specs.Statuses.{code_of}
 
 abbrev pub answer_of : Reply → Answer
-answer_of reply = answer (cow_str_bytes reply.text) (code_of reply.status)
+answer_of reply = answer (cow_slice_items reply.text) (code_of reply.status)
 
 -- the answer of a refusal is allowed; want of memory has none
 abbrev pub IfRefused : Stop → Allows → Type 0

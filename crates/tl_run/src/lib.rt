@@ -3,6 +3,7 @@
 
 mod check;
 mod command_line;
+mod decide;
 mod readers;
 mod refusals;
 mod refute;

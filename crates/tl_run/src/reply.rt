@@ -6,12 +6,12 @@ ghost use Rattle.tl_run.specs.Statuses.{code_of};
 
 use crate::status::Status;
 use std::alloc::{AllocError, Global};
-use std::borrow::CowStr;
+use std::borrow::CowSlice;
 
 /// A whole text that is to be printed, and the status that goes with it.
 #[derive(Drop)]
 pub struct Reply {
-    pub text: CowStr<'static, Global>,
+    pub text: CowSlice<'static, u8, Global>,
     pub status: Status,
     ghost whole: { IsTrue (is_whole (code_of status)) },
 }
@@ -27,7 +27,7 @@ impl Reply {
         ensures { answer_of result ≡ answer text.now (code_of status) }
     {
         Reply {
-            text: CowStr::Borrowed(text),
+            text: CowSlice::Borrowed(text.as_bytes()),
             status,
         }
     }
@@ -37,8 +37,16 @@ impl Reply {
         requires { IsTrue (is_whole (code_of status)) }
         ensures { answer_of result ≡ answer (string_bytes text) (code_of status) }
     {
+        Reply::of_bytes(text.into_bytes(), status)
+    }
+
+    /// A reply of the bytes of a text that was made for it.
+    pub fn of_bytes(text: Vec<u8>, status: Status) -> Reply
+        requires { IsTrue (is_whole (code_of status)) }
+        ensures { answer_of result ≡ answer text.items (code_of status) }
+    {
         Reply {
-            text: CowStr::Owned(text),
+            text: CowSlice::Owned(text),
             status,
         }
     }

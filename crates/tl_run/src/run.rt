@@ -7,6 +7,7 @@ ghost use Rattle.tl_run.specs.Statuses.{code_of};
 ghost use Rattle.tl_run.specs.Writing.{Writing};
 
 use crate::check::check;
+use crate::decide::decide;
 use crate::refusals::{input_too_long, read_fault, usage};
 use crate::refute::refute;
 use crate::status::Status;
@@ -22,7 +23,7 @@ fn is_there(command: Command) -> bool
     ensures there { result ≡ true → IsTrue (reads_input (meaning_of command)) }
     ensures absent { result ≡ false → IsAbsent (meaning_of command) }
 {
-    matches!(command, Command::Check | Command::Refute)
+    matches!(command, Command::Check | Command::Decide | Command::Refute)
 }
 
 // Answers an input: an arm for each command.
@@ -33,6 +34,7 @@ fn answer_input<K: Sink>(alloc: Global, command: Command, input: &[u8], sink: &m
 {
     match command {
         Command::Check => write_made(sink, &check(alloc, input)),
+        Command::Decide => write_made(sink, &decide(alloc, input)),
         Command::Refute => write_made(sink, &refute(alloc, input)),
         _ => write_reply(sink, &usage()),
     }

@@ -155,6 +155,103 @@ fn each_input_has_its_first_refusal(rt: HostRuntime) -> Result<(), AllocError> {
 }
 
 #[test]
+fn a_region_has_its_top_tiling_or_a_reason(rt: HostRuntime) -> Result<(), AllocError> {
+    let cases: [(&[u8], &[u8], Status); 14] = [
+        (b"square\n##\n##\n", b"tiling\n><\n><\n", Status::Answered),
+        (
+            b"square\r\n##\r\n##\r\n",
+            b"tiling\n><\n><\n",
+            Status::Answered,
+        ),
+        (
+            b"square\n###\n###\n",
+            b"tiling\n><v\n><^\n",
+            Status::Answered,
+        ),
+        (
+            b"triangle\n###\n###\n",
+            b"tiling\n><v\n><^\n",
+            Status::Answered,
+        ),
+        (b"square\n#\n", b"none open 4\n", Status::Refuted),
+        (b"triangle\n#\n", b"none open 3\n", Status::Refuted),
+        (b"triangle\n.#\n", b"none open -3\n", Status::Refuted),
+        (b"square\n###\n#.#\n###\n", b"hole\n", Status::Input),
+        (b"square\n###\n#.#\n##.\n", b"pinch 2 2\n", Status::Input),
+        (b"square\n#.\n.#\n", b"parts 1 1\n", Status::Input),
+        (b"square\n..\n", b"empty region\n", Status::Input),
+        (b"", b"bad header\n", Status::Input),
+        (b"square\n#x\n", b"bad byte 0 1\n", Status::Input),
+        (b"square\n##\n\n##\n", b"extra text\n", Status::Input),
+    ];
+    for (input, reply, wanted) in cases {
+        let (status, sink) = answered(&rt, rt.alloc(), "decide", input)?;
+        assert_eq!(rt; sink.held(), reply, "{input:?}");
+        assert_eq!(rt; status, wanted, "{input:?}");
+    }
+    Ok(())
+}
+
+const CHESSBOARD: &[u8] = b"square
+########
+########
+########
+########
+########
+########
+########
+########
+";
+
+const CHESSBOARD_TILED: &[u8] = b"tiling
+><><><><
+v><><><v
+^v><><v^
+v^v><v^v
+^v^><^v^
+v^><><^v
+^><><><^
+><><><><
+";
+
+#[test]
+fn a_chessboard_is_tiled_and_one_without_two_corners_is_not(
+    rt: HostRuntime,
+) -> Result<(), AllocError> {
+    let (status, sink) = answered(&rt, rt.alloc(), "decide", CHESSBOARD)?;
+    assert_eq!(rt; sink.held(), CHESSBOARD_TILED);
+    assert_eq!(rt; status, Status::Answered);
+    let mut input = Vec::from_slice(rt.alloc(), CHESSBOARD)?;
+    for (i, byte) in input.iter_mut().enumerate() {
+        if i == 7 || i == 77 {
+            *byte = b'.';
+        }
+    }
+    let (status, sink) = answered(&rt, rt.alloc(), "decide", input.as_slice())?;
+    assert_eq!(rt; sink.held(), b"none open -8\n".as_slice());
+    assert_eq!(rt; status, Status::Refuted);
+    Ok(())
+}
+
+#[test]
+fn the_gap_of_a_region_is_refuted(rt: HostRuntime) -> Result<(), AllocError> {
+    let crossing = b"square\n.#..\n####\n..#.\n".as_slice();
+    let hourglass = b"square\n#\n##\n###\n..###\n...##\n....#\n".as_slice();
+    for region in [crossing, hourglass] {
+        let (status, told) = answered(&rt, rt.alloc(), "decide", region)?;
+        assert_eq!(rt; status, Status::Refuted);
+        assert!(rt; told.held().starts_with(b"none gap "));
+        let mut input = Vec::from_slice(rt.alloc(), region)?;
+        input.push(b'\n')?;
+        input.extend_from_slice(told.held())?;
+        let (status, sink) = answered(&rt, rt.alloc(), "refute", input.as_slice())?;
+        assert_eq!(rt; sink.held(), b"refuted\n".as_slice());
+        assert_eq!(rt; status, Status::Answered);
+    }
+    Ok(())
+}
+
+#[test]
 fn a_reason_without_a_tiling_holds_or_doesnt(rt: HostRuntime) -> Result<(), AllocError> {
     let cases: [(&[u8], &[u8], Status); 13] = [
         (
@@ -282,7 +379,7 @@ fn words_without_an_answer_leave_the_source(rt: HostRuntime) -> Result<(), Alloc
         &["check", "check"],
         &["check", "--seed", "1"],
         &["--help"],
-        &["decide"],
+        &["decide", "decide"],
         &["sample", "--seed", "1"],
         &["gen", "--shape=aztec", "--order=2"],
     ];

@@ -14,7 +14,7 @@ use tl_io::{Sink, write_all};
 pub fn write_reply<K: Sink>(sink: &mut K, reply: &Reply) -> Status
     ensures { Writing (Is (answer_of reply.now)) true (K.state sink.old) (K.state sink.new) (code_of result) }
 {
-    match write_all(sink, reply.text.as_str().as_bytes()) {
+    match write_all(sink, reply.text.as_slice()) {
         Ok(()) => reply.status,
         Err(_) => Status::WriteFault,
     }

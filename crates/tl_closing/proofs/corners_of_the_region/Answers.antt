@@ -1,23 +1,18 @@
-use Rattle.std.proofs.Common.{arith, ◌<◌, [], ◌∷◌, length, ◌≡◌, true, List, inl, refl, sym, subst}
-use Rattle.tl_definitions.specs.declared.Corner.{Corner}
+use Rattle.std.proofs.Common.{arith, ◌<◌, [], ◌∷◌, length, ◌≡◌, List, inl, refl}
 use Rattle.tl_definitions.specs.declared.Cell.{Cell}
 use Rattle.tl_definitions.specs.Lattice.{Side}
-use Rattle.tl_definitions.specs.Region.{is_corner_of, boundary}
-use Rattle.tl_definitions.specs.Accepted.{circuit_corners}
-use Rattle.tl_lists.proofs.Members.{In, In-map_parts, slice_get-In}
+use Rattle.tl_definitions.specs.Region.{boundary}
+use Rattle.tl_lists.proofs.Members.{In}
 use Rattle.tl_definitions.proofs.InnerNumbers.{inner-at}
 use Rattle.tl_closing.proofs.Edges.{Distinct-cells}
-use Rattle.tl_closing.proofs.Circuit.{walk-boundary, boundary-walk}
-use Rattle.tl_closing.proofs.Start.{boundary-corner, boundary-some}
+use Rattle.tl_closing.proofs.Circuit.{boundary-walk}
+use Rattle.tl_closing.proofs.Start.{boundary-some}
 use Rattle.tl_closing.proofs.InnerSteps.{inner-of_region}
-use Rattle.tl_closing.proofs.OnCircuit.{on_circuit-inner}
+use Rattle.tl_closing.proofs.OnCircuit.{circuit-corner, on_circuit-inner}
 use Rattle.tl_closing.proofs.corners_of_the_region.Goals as goal
 
 pub returns-clause-on_circuit : goal.returns-clause-on_circuit
-returns-clause-on_circuit c R walk k v placed circuit e = go (In-map_parts (λ (s : Side). s.from) v walk (slice_get-In (circuit_corners walk) k v e))
-  where
-    go : (s : Side) × In s walk × (v ≡ s.from) → is_corner_of R v ≡ true
-    go (s, i, f) = subst (λ (u : Corner). is_corner_of R u ≡ true) (sym f) (boundary-corner R s (walk-boundary R (Distinct-cells R placed) walk circuit s i))
+returns-clause-on_circuit c R walk k v placed circuit e = circuit-corner R walk k v placed circuit e
 
 pub returns-clause-inner : goal.returns-clause-inner
 returns-clause-inner c R i v e = inner-of_region R v (inner-at R v i e)

@@ -1,7 +1,8 @@
 use Rattle.std.proofs.Common.{sym, subst}
 use Rattle.tl_text.specs.declared.Command.{Command}
-use Rattle.tl_text.specs.declared.Command.TheVariants.{Check, Refute}
+use Rattle.tl_text.specs.declared.Command.TheVariants.{Check, Decide, Refute}
 use Rattle.tl_run.specs.Check.{CheckReply}
+use Rattle.tl_run.specs.Decide.{DecideReply}
 use Rattle.tl_run.specs.Refute.{RefuteReply}
 use Rattle.tl_run.specs.Replies.{Answers, meaning_of, takes_memory_first}
 use Rattle.tl_run.specs.Replying.{Makes}
@@ -29,3 +30,12 @@ returns-in-Refute g c =
     (sym c.in-Refute.is)
     (Writing-weaker (Makes c.refute.result) (Answers (meaning_of Refute) input) (takes_memory_first Refute) _ _ _
     (λ a p. OfInput-short input (RefuteReply input) a c.requires (Makes-allowed c.refute.result (RefuteReply input) c.refute.ensures a p)) c.write_made-in-Refute.ensures)
+
+pub returns-in-Decide : goal.returns-in-Decide
+returns-in-Decide g c =
+    let input = c.args.input.now in
+    subst
+    (λ (k : Command). Writing (Answers (meaning_of k) input) (takes_memory_first k) (g.K.Sink.state c.args.sink.now) (g.K.Sink.state c.write_made-in-Decide.new.sink) (code_of c.write_made-in-Decide.result))
+    (sym c.in-Decide.is)
+    (Writing-weaker (Makes c.decide.result) (Answers (meaning_of Decide) input) (takes_memory_first Decide) _ _ _
+    (λ a p. OfInput-short input (DecideReply input) a c.requires (Makes-allowed c.decide.result (DecideReply input) c.decide.ensures a p)) c.write_made-in-Decide.ensures)

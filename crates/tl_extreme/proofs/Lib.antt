@@ -1,0 +1,13 @@
+mod AllNumbered
+mod CircuitSources
+mod CornerPlaces
+mod DistanceLemmas
+mod EndPlaces
+mod InnerPlaces
+mod Leading
+mod MappedPaths
+mod SpreadHeights
+mod SourceOrder
+mod StepPlaces
+mod Told
+mod VerdictLemmas

@@ -1,0 +1,6 @@
+pub mod Paths
+pub mod CornerGraph
+pub mod Sources
+pub mod Verdicts
+pub mod Distances
+pub mod Undercuts

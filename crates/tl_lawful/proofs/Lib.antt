@@ -1,0 +1,5 @@
+pub mod Stated
+mod LeastMember
+mod UnderTarget
+mod Choices
+mod Greatest

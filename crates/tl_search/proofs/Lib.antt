@@ -1,0 +1,12 @@
+pub mod Paths
+pub mod Numbers
+pub mod Search
+pub mod FirstNumbers
+pub mod Passing
+pub mod Giving
+pub mod Turns
+pub mod Ends
+pub mod Undercuts
+pub mod Tracing
+pub mod Reversals
+pub mod TableGraphs

@@ -1,0 +1,4 @@
+pub mod Graphs
+pub mod Spreading
+pub mod Searching
+pub mod Tables
