@@ -20,10 +20,7 @@ crossed-falls k x y false e = (by_difference x y (negsuc 0) (omega (arith, ints,
 pub level-rests : (x : ℤ) → falls_between x x ≡ false
 level-rests x = by_difference x x (pos 0) (omega (arith, ints))
 
--- ---- the numbers as a call has them
+-- ---- a number as a call has it
 
 pub falls-passed : (n y w : ℤ) → SFits w32 w → w ≡ y → falls_between n (to_z w32 (of_z w32 w)) ≡ falls_between n y
 falls-passed n y w fits same = ap (falls_between n) (to_z-of_z w32 w fits ∙ same)
-
-pub both-passed : (x y z w : ℤ) → SFits w32 z → SFits w32 w → z ≡ x → w ≡ y → falls_between (to_z w32 (of_z w32 z)) (to_z w32 (of_z w32 w)) ≡ falls_between x y
-both-passed x y z w fits fits' same same' = ap (λ (n : ℤ). falls_between n (to_z w32 (of_z w32 w))) (to_z-of_z w32 z fits ∙ same) ∙ falls-passed x y w fits' same'

@@ -1,17 +1,19 @@
 -- The letter of a cell names the side across which the heights fall.
-use Rattle.std.proofs.Common.{◌≡◌, ℕ, ◌+◌, ◌⊎◌, inl, inr, Bool, true, false, not, List, [], ◌∷◌, map, cond, Option, Some, refl, sym, ◌∙◌, ap, subst, arith, ℤ}
+use Rattle.std.proofs.Common.{◌≡◌, ℕ, ◌+◌, ◌*◌, ◌<◌, ◌⊎◌, inl, inr, Bool, true, false, not, List, map, length, drop, get_or, cond, pos, Option, Some, refl, sym, ◌∙◌, ap, subst, arith, ℤ}
 use Rattle.std.specs.Prelude.{option_map, IsTrue}
 use Rattle.std.proofs.lemmas.Bool.{false_from_ne_true}
+use Rattle.std.proofs.lemmas.List.{length-map, get_or-map, get_or-take, get_or-drop}
+use Rattle.std.proofs.lemmas.List.FromFn.{length-map-range_with_len, get_or-map-range_with_len}
 use Rattle.tl_definitions.specs.declared.Kind.{Kind}
 use Rattle.tl_definitions.specs.declared.Kind.TheVariants.{Square, Triangle}
 use Rattle.tl_definitions.specs.declared.Cell.{Cell}
 use Rattle.tl_definitions.specs.declared.Corner.{Corner}
 use Rattle.tl_definitions.specs.declared.Tile.{Tile}
-use Rattle.tl_definitions.specs.Lattice.{corner, cell_eq, is_dark, corners, side, sides}
-use Rattle.tl_definitions.specs.Region.{Region, has, is_corner_of}
+use Rattle.tl_definitions.specs.Lattice.{cell, corner, cell_eq, is_dark, side, sides}
+use Rattle.tl_definitions.specs.Region.{Region, has, row_part}
 use Rattle.tl_definitions.specs.Tiling.{covers, is_tiling, other_cell, partner}
 use Rattle.tl_formats.specs.Drawing.{letter}
-use Rattle.tl_definitions.specs.Heights.{height, AreHeights}
+use Rattle.tl_definitions.specs.Heights.{height, height_row, AreHeights}
 use Rattle.tl_definitions.proofs.Cells.{cell_eq-same, cell_eq-refl}
 use Rattle.tl_lists.proofs.Members.{In, In-map}
 use Rattle.tl_lists.proofs.Counts.{Only}
@@ -19,11 +21,48 @@ use Rattle.tl_lists.proofs.Searches.{find-only, none-find}
 use Rattle.tl_formats.proofs.Drawings.{letter-named}
 use Rattle.tl_definitions.proofs.Tilings.{TilingParts, tiling-parts}
 use Rattle.tl_closing.specs.Closing.{step_along, steps_round}
-use Rattle.tl_closing.proofs.Stated.{directed, SameStep, same_step, IsCentre, round-centre, cell-one, cell-two, Step, has-In, In-has, round-step, is_step-from, corner_of-from, is_crossed, crossed-parts, IsAcross, IsCrossing, one-crossed, covers-cases, covers-from, up_sides, down_sides, among-up, among-down, right-is, left-is, above-is, below-is}
-use Rattle.tl_height.specs.declared.sides.Ends.{Ends}
+use Rattle.tl_closing.proofs.Stated.{directed, SameStep, same_step, IsCentre, round-centre, cell-one, cell-two, Step, has-In, In-has, round-step, is_step-from, is_crossed, crossed-parts, IsAcross, IsCrossing, one-crossed, covers-cases, covers-from, up_sides, down_sides, among-up, among-down, right-is, left-is, above-is, below-is}
 use Rattle.tl_height.specs.HeightFunction.{falls_between}
-use Rattle.tl_height.specs.Letters.{ends_of}
+use Rattle.tl_height.specs.Letters.{letter_between, square_letter, triangle_letter}
 use Rattle.tl_height.proofs.FallLemmas.{crossed-falls, level-rests}
+
+-- ---- the corners between which the sides of a cell lie
+
+-- A triangle has one of the ends twice: that above where it points up, and that below where it points down.
+record Ends : Type 0 where
+  upper_left : Corner
+  upper_right : Corner
+  lower_left : Corner
+  lower_right : Corner
+
+abbrev ends_up : Cell → Ends
+ends_up a =
+    record {
+      upper_left = corner a.r (a.c + 1);
+      upper_right = corner a.r (a.c + 1);
+      lower_left = corner (a.r + 1) a.c;
+      lower_right = corner (a.r + 1) (a.c + 2);
+    }
+
+abbrev ends_down : Cell → Ends
+ends_down a =
+    record {
+      upper_left = corner a.r a.c;
+      upper_right = corner a.r (a.c + 2);
+      lower_left = corner (a.r + 1) (a.c + 1);
+      lower_right = corner (a.r + 1) (a.c + 1);
+    }
+
+-- the ends of the left and of the right side of a cell
+abbrev ends_of : Kind → Cell → Ends
+ends_of Square a =
+    record {
+      upper_left = corner a.r a.c;
+      upper_right = corner a.r (a.c + 1);
+      lower_left = corner (a.r + 1) a.c;
+      lower_right = corner (a.r + 1) (a.c + 1);
+    }
+ends_of Triangle a = cond (is_dark a) (ends_up a) (ends_down a)
 
 -- ---- the cell across a side of a square, by the side
 
@@ -92,10 +131,10 @@ across R A tiling a i = start (one-crossed R A tiling a i)
 
 -- ---- the letter by three tests
 
-abbrev pub tested : Bool → Bool → Bool → ℕ
+abbrev tested : Bool → Bool → Bool → ℕ
 tested on_right on_left on_lower = cond on_right 62 (cond on_left 60 (cond on_lower 118 94))
 
-abbrev pub letter_by : (Corner → Corner → Bool) → Ends → ℕ
+abbrev letter_by : (Corner → Corner → Bool) → Ends → ℕ
 letter_by falls e = tested (falls e.upper_right e.lower_right) (falls e.upper_left e.lower_left) (falls e.lower_left e.lower_right)
 
 same_ends : (t : Bool) (u v u' v' : Corner) → directed t u v ≡ directed t u' v' → SameStep (u, v) (u', v')
@@ -143,25 +182,7 @@ module _ (falls : Corner → Corner → Bool) (none : (u : Corner) → falls u u
   centre-at t u v colour centre at =
       subst (λ (t : Bool). IsCentre Triangle (not t) b.r b.c (directed t u v)) colour (subst (IsCentre Triangle (not (is_dark a)) b.r b.c) at centre)
 
-  abbrev ends_up : Ends
-  ends_up =
-      record {
-        upper_left = corner a.r (a.c + 1);
-        upper_right = corner a.r (a.c + 1);
-        lower_left = corner (a.r + 1) a.c;
-        lower_right = corner (a.r + 1) (a.c + 2);
-      }
-
-  abbrev ends_down : Ends
-  ends_down =
-      record {
-        upper_left = corner a.r a.c;
-        upper_right = corner a.r (a.c + 2);
-        lower_left = corner (a.r + 1) (a.c + 1);
-        lower_right = corner (a.r + 1) (a.c + 1);
-      }
-
-  up-letter : On Triangle → Off Triangle → IsCentre Triangle (not (is_dark a)) b.r b.c e → is_dark a ≡ true → In e (map step_along (up_sides a)) → letter_by falls ends_up ≡ letter a (Some b)
+  up-letter : On Triangle → Off Triangle → IsCentre Triangle (not (is_dark a)) b.r b.c e → is_dark a ≡ true → In e (map step_along (up_sides a)) → letter_by falls (ends_up a) ≡ letter a (Some b)
   up-letter on off centre dark (inl at) =
       let p = off (corner (a.r + 1) (a.c + 2)) (corner a.r (a.c + 1)) (among-up a _ dark (inr (inr (inl refl)))) (λ q. omega (arith, same_ends (is_dark a) _ _ _ _ (sym q ∙ at))) in
       let l = on (corner a.r (a.c + 1)) (corner (a.r + 1) a.c) (among-up a _ dark (inl refl)) at in
@@ -180,7 +201,7 @@ module _ (falls : Corner → Corner → Bool) (none : (u : Corner) → falls u u
       ∙ sym (letter-named 62 a b (right-is a b (omega (arith, m)) (omega (arith, m))))
   up-letter on off centre dark (inr (inr (inr never))) = absurd never
 
-  down-letter : On Triangle → Off Triangle → IsCentre Triangle (not (is_dark a)) b.r b.c e → is_dark a ≡ false → In e (map step_along (down_sides a)) → letter_by falls ends_down ≡ letter a (Some b)
+  down-letter : On Triangle → Off Triangle → IsCentre Triangle (not (is_dark a)) b.r b.c e → is_dark a ≡ false → In e (map step_along (down_sides a)) → letter_by falls (ends_down a) ≡ letter a (Some b)
   down-letter on off centre light (inl at) =
       let p = off (corner (a.r + 1) (a.c + 1)) (corner a.r (a.c + 2)) (among-down a _ light (inr (inl refl))) (λ q. omega (arith, same_ends (is_dark a) _ _ _ _ (sym q ∙ at))) in
       let l = on (corner a.r a.c) (corner (a.r + 1) (a.c + 1)) (among-down a _ light (inl refl)) at in
@@ -203,17 +224,17 @@ module _ (falls : Corner → Corner → Bool) (none : (u : Corner) → falls u u
   kind-letter Triangle on off centre i = go (is_dark a) refl i
     where
       go : (t : Bool) → is_dark a ≡ t → In e (map step_along (cond t (up_sides a) (down_sides a))) → letter_by falls (ends_of Triangle a) ≡ letter a (Some b)
-      go true dark i = ap (λ (t : Bool). letter_by falls (cond t ends_up ends_down)) dark ∙ up-letter on off centre dark i
-      go false light i = ap (λ (t : Bool). letter_by falls (cond t ends_up ends_down)) light ∙ down-letter on off centre light i
+      go true dark i = ap (λ (t : Bool). letter_by falls (cond t (ends_up a) (ends_down a))) dark ∙ up-letter on off centre dark i
+      go false light i = ap (λ (t : Bool). letter_by falls (cond t (ends_up a) (ends_down a))) light ∙ down-letter on off centre light i
 
 -- ---- the letter of a cell
 
 -- the test by the heights of two corners
-abbrev pub falls_at : Region → List ℤ → Corner → Corner → Bool
+abbrev falls_at : Region → List ℤ → Corner → Corner → Bool
 falls_at R numbers u v = falls_between (height R numbers u) (height R numbers v)
 
 -- the letter by the heights of a tiling is that of the partner
-pub letter-partner : (R : Region) (A : List Tile) (numbers : List ℤ) (a : Cell) → IsTrue (is_tiling R A) → AreHeights R A numbers → has R a ≡ true
+letter-partner : (R : Region) (A : List Tile) (numbers : List ℤ) (a : Cell) → IsTrue (is_tiling R A) → AreHeights R A numbers → has R a ≡ true
     → letter_by (falls_at R numbers) (ends_of R.kind a) ≡ letter a (partner A a)
 letter-partner R A numbers a tiling h e = go (across R A (tiling-parts R A tiling) a a_in)
   where
@@ -263,53 +284,9 @@ letter-partner R A numbers a tiling h e = go (across R A (tiling-parts R A tilin
         centre : IsCentre R.kind (not (is_dark a)) x.mate.r x.mate.c x.step
         centre = subst (λ (t : Bool). IsCentre R.kind t x.mate.r x.mate.c x.step) colour (round-centre R.kind x.mate x.step x.there)
 
--- ---- the ends of a cell's sides are corners of the region
-
-pub record AreCorners (R : Region) (e : Ends) : Type 0 where
-  pub upper_left : IsTrue (is_corner_of R e.upper_left)
-  pub upper_right : IsTrue (is_corner_of R e.upper_right)
-  pub lower_left : IsTrue (is_corner_of R e.lower_left)
-  pub lower_right : IsTrue (is_corner_of R e.lower_right)
-
-abbrev Among : List Corner → Ends → Type 0
-Among vs e = In e.upper_left vs × In e.upper_right vs × In e.lower_left vs × In e.lower_right vs
-
-ends-corners : (k : Kind) (a : Cell) → Among (corners k a) (ends_of k a)
-ends-corners Square a = (inl refl, inr (inl refl), inr (inr (inl refl)), inr (inr (inr (inl refl))))
-ends-corners Triangle a = go (is_dark a)
-  where
-    go : (t : Bool) → Among
-        (cond t (corner a.r (a.c + 1) ∷ corner (a.r + 1) a.c ∷ corner (a.r + 1) (a.c + 2) ∷ []) (corner a.r a.c ∷ corner a.r (a.c + 2) ∷ corner (a.r + 1) (a.c + 1) ∷ []))
-        (cond t
-        (record {
-          upper_left = corner a.r (a.c + 1);
-          upper_right = corner a.r (a.c + 1);
-          lower_left = corner (a.r + 1) a.c;
-          lower_right = corner (a.r + 1) (a.c + 2);
-        })
-        (record {
-          upper_left = corner a.r a.c;
-          upper_right = corner a.r (a.c + 2);
-          lower_left = corner (a.r + 1) (a.c + 1);
-          lower_right = corner (a.r + 1) (a.c + 1);
-        }))
-    go true = (inl refl, inl refl, inr (inl refl), inr (inr (inl refl)))
-    go false = (inl refl, inr (inl refl), inr (inr (inl refl)), inr (inr (inl refl)))
-
-pub ends-of_region : (R : Region) (a : Cell) → has R a ≡ true → AreCorners R (ends_of R.kind a)
-ends-of_region R a e =
-    let p : Among (corners R.kind a) (ends_of R.kind a) = ends-corners R.kind a in
-    let i : In a R.cells = has-In R a e in
-    record {
-      upper_left = corner_of-from R a _ i p.0;
-      upper_right = corner_of-from R a _ i p.1;
-      lower_left = corner_of-from R a _ i p.2;
-      lower_right = corner_of-from R a _ i p.3;
-    }
-
 -- ---- a place that is no cell of the region
 
-pub letter-outside : (R : Region) (A : List Tile) (a : Cell) → IsTrue (is_tiling R A) → has R a ≡ false → 46 ≡ letter a (partner A a)
+letter-outside : (R : Region) (A : List Tile) (a : Cell) → IsTrue (is_tiling R A) → has R a ≡ false → 46 ≡ letter a (partner A a)
 letter-outside R A a tiling e =
     sym (ap (λ (o : Option Tile). letter a (option_map (λ t. other_cell t a) o)) (none-find (λ t. covers t a) A missed))
   where
@@ -319,3 +296,65 @@ letter-outside R A a tiling e =
 
     missed : (t : Tile) → In t A → covers t a ≡ true → ⊥
     missed t i c = cc (e, inside t i (covers-cases t a c))
+
+-- ---- the letters of a row
+
+-- the flags of a row
+pub flags-length : (R : Region) (r : ℕ) (flags : List Bool) → flags ≡ map (has R) (row_part r 0 R.columns) → length flags ≡ R.columns
+flags-length R r flags e = ap length e ∙ length-map (row_part r 0 R.columns) (has R) ∙ length-map-range_with_len (λ c. cell r c) 0 R.columns
+
+flag-at : (R : Region) (r c : ℕ) (flags : List Bool) → flags ≡ map (has R) (row_part r 0 R.columns) → c < R.columns → get_or flags c false ≡ has R (cell r c)
+flag-at R r c flags e h =
+    ap (λ (l : List Bool). get_or l c false) e
+    ∙ get_or-map (has R) (row_part r 0 R.columns) c (cell 0 0) false (omega (arith, h, length-map-range_with_len (λ c. cell r c) 0 R.columns))
+    ∙ ap (has R) (get_or-map-range_with_len (λ c. cell r c) 0 R.columns c c (cell 0 0) h (omega arith))
+
+-- the heights of a row
+height-at : (R : Region) (numbers row : List ℤ) (r x : ℕ) → row ≡ height_row R numbers r → x < R.columns + 2 → get_or row x (pos 0) ≡ height R numbers (corner r x)
+height-at R numbers row r x e h =
+    ap (λ (l : List ℤ). get_or l x (pos 0)) e
+    ∙ get_or-take (R.columns + 2) (drop (r * (R.columns + 2)) numbers) x (pos 0) h
+    ∙ get_or-drop (r * (R.columns + 2)) numbers x (pos 0)
+
+module _ (R : Region) (A : List Tile) (numbers : List ℤ) (tiling : IsTrue (is_tiling R A)) (h : AreHeights R A numbers)
+    (r : ℕ) (flags : List Bool) (upper lower : List ℤ)
+    (flags_are : flags ≡ map (has R) (row_part r 0 R.columns)) (upper_is : upper ≡ height_row R numbers r) (lower_is : lower ≡ height_row R numbers (r + 1)) where
+  above : (x : ℕ) → x < R.columns + 2 → get_or upper x (pos 0) ≡ height R numbers (corner r x)
+  above x within = height-at R numbers upper r x upper_is within
+
+  below : (x : ℕ) → x < R.columns + 2 → get_or lower x (pos 0) ≡ height R numbers (corner (r + 1) x)
+  below x within = height-at R numbers lower (r + 1) x lower_is within
+
+  square-ends : (c : ℕ) → c < R.columns → square_letter upper lower c ≡ letter_by (falls_at R numbers) (ends_of Square (cell r c))
+  square-ends c within =
+      λ i. letter_between (above c (omega (arith, within)) i) (above (c + 1) (omega (arith, within)) i) (below c (omega (arith, within)) i) (below (c + 1) (omega (arith, within)) i)
+
+  triangle-ends : (c : ℕ) → c < R.columns → triangle_letter r upper lower c ≡ letter_by (falls_at R numbers) (ends_of Triangle (cell r c))
+  triangle-ends c within = go (is_dark (cell r c))
+    where
+      go : (t : Bool)
+          → cond t
+          (letter_between (get_or upper (c + 1) (pos 0)) (get_or upper (c + 1) (pos 0)) (get_or lower c (pos 0)) (get_or lower (c + 2) (pos 0)))
+          (letter_between (get_or upper c (pos 0)) (get_or upper (c + 2) (pos 0)) (get_or lower (c + 1) (pos 0)) (get_or lower (c + 1) (pos 0)))
+          ≡ letter_by (falls_at R numbers) (cond t (ends_up (cell r c)) (ends_down (cell r c)))
+      go true =
+          λ i. letter_between (above (c + 1) (omega (arith, within)) i) (above (c + 1) (omega (arith, within)) i) (below c (omega (arith, within)) i) (below (c + 2) (omega (arith, within)) i)
+      go false =
+          λ i. letter_between (above c (omega (arith, within)) i) (above (c + 2) (omega (arith, within)) i) (below (c + 1) (omega (arith, within)) i) (below (c + 1) (omega (arith, within)) i)
+
+  -- the letter by the heights, or the dot, is that of the partner
+  letter-placed : (k : Kind) (c letter_there : ℕ) → k ≡ R.kind → c < R.columns → letter_there ≡ letter_by (falls_at R numbers) (ends_of k (cell r c))
+      → cond (get_or flags c false) letter_there 46 ≡ letter (cell r c) (partner A (cell r c))
+  letter-placed k c letter_there kind within e =
+      ap (λ (t : Bool). cond t letter_there 46) (flag-at R r c flags flags_are within) ∙ go (has R (cell r c)) refl
+    where
+      go : (t : Bool) → has R (cell r c) ≡ t → cond t letter_there 46 ≡ letter (cell r c) (partner A (cell r c))
+      go true there =
+          e ∙ (ap (λ (k : Kind). letter_by (falls_at R numbers) (ends_of k (cell r c))) kind ∙ letter-partner R A numbers (cell r c) tiling h there)
+      go false missing = letter-outside R A (cell r c) tiling missing
+
+  pub square-placed : (c : ℕ) → Square ≡ R.kind → c < R.columns → cond (get_or flags c false) (square_letter upper lower c) 46 ≡ letter (cell r c) (partner A (cell r c))
+  square-placed c kind within = letter-placed Square c (square_letter upper lower c) kind within (square-ends c within)
+
+  pub triangle-placed : (c : ℕ) → Triangle ≡ R.kind → c < R.columns → cond (get_or flags c false) (triangle_letter r upper lower c) 46 ≡ letter (cell r c) (partner A (cell r c))
+  triangle-placed c kind within = letter-placed Triangle c (triangle_letter r upper lower c) kind within (triangle-ends c within)

@@ -1,40 +1,32 @@
 -- The drawing of the tiling that some heights are those of.
-use Rattle.std.specs.Prelude.{◌≡◌, ℕ, ◌+◌, if◌then◌else◌, List, [], ◌∷◌, ◌++◌, map, ℤ, IsTrue}
-use Rattle.tl_definitions.specs.declared.Kind.{Kind}
-use Rattle.tl_definitions.specs.declared.Kind.TheVariants.{Square, Triangle}
-use Rattle.tl_definitions.specs.declared.Cell.{Cell}
+use Rattle.std.specs.Prelude.{◌≡◌, ℕ, ◌+◌, if◌then◌else◌, List, [], ◌∷◌, ◌++◌, map, ℤ, pos, IsTrue, slice_index_or}
 use Rattle.tl_definitions.specs.declared.Tile.{Tile}
-use Rattle.tl_definitions.specs.Lattice.{cell, corner, is_dark}
+use Rattle.tl_definitions.specs.Lattice.{cell, is_dark}
 use Rattle.tl_definitions.specs.Region.{Region}
 use Rattle.tl_lists.specs.Lists.{upto}
 use Rattle.tl_definitions.specs.Tiling.{is_tiling, partner}
 use Rattle.tl_formats.specs.Drawing.{letter, drawing}
 use Rattle.tl_definitions.specs.Heights.{AreHeights}
-use Rattle.tl_height.specs.declared.sides.Ends.{Ends}
+use Rattle.tl_height.specs.HeightFunction.{falls_between}
 
--- the ends of the left and of the right side of a cell
-abbrev pub ends_of : Kind → Cell → Ends
-ends_of Square a =
-    record {
-      upper_left = corner a.r a.c;
-      upper_right = corner a.r (a.c + 1);
-      lower_left = corner (a.r + 1) a.c;
-      lower_right = corner (a.r + 1) (a.c + 1);
-    }
-ends_of Triangle a =
-    if is_dark a
-    then record {
-      upper_left = corner a.r (a.c + 1);
-      upper_right = corner a.r (a.c + 1);
-      lower_left = corner (a.r + 1) a.c;
-      lower_right = corner (a.r + 1) (a.c + 2);
-    }
-    else record {
-      upper_left = corner a.r a.c;
-      upper_right = corner a.r (a.c + 2);
-      lower_left = corner (a.r + 1) (a.c + 1);
-      lower_right = corner (a.r + 1) (a.c + 1);
-    }
+-- the letter of a cell whose left and right side have ends of these heights: that of the side along which they fall
+abbrev pub letter_between : ℤ → ℤ → ℤ → ℤ → ℕ
+letter_between upper_left upper_right lower_left lower_right =
+    if falls_between upper_right lower_right
+    then 62
+    else (if falls_between upper_left lower_left then 60 else (if falls_between lower_left lower_right then 118 else 94))
+
+-- the letter of the square in a column, by the rows of heights above and below it
+abbrev pub square_letter : List ℤ → List ℤ → ℕ → ℕ
+square_letter upper lower c =
+    letter_between (slice_index_or upper c (pos 0)) (slice_index_or upper (c + 1) (pos 0)) (slice_index_or lower c (pos 0)) (slice_index_or lower (c + 1) (pos 0))
+
+-- the letter of the triangle in a column of row r
+abbrev pub triangle_letter : ℕ → List ℤ → List ℤ → ℕ → ℕ
+triangle_letter r upper lower c =
+    if is_dark (cell r c)
+    then letter_between (slice_index_or upper (c + 1) (pos 0)) (slice_index_or upper (c + 1) (pos 0)) (slice_index_or lower c (pos 0)) (slice_index_or lower (c + 2) (pos 0))
+    else letter_between (slice_index_or upper c (pos 0)) (slice_index_or upper (c + 2) (pos 0)) (slice_index_or lower (c + 1) (pos 0)) (slice_index_or lower (c + 1) (pos 0))
 
 -- a row of a printed drawing
 abbrev pub row_text : Region → List Tile → ℕ → List ℕ

@@ -7,19 +7,18 @@ ghost use Rattle.tl_definitions.specs.declared.Tile.{Tile};
 ghost use Rattle.tl_definitions.specs.Lattice.{steps_out as steps_from, steps_in as steps_to};
 ghost use Rattle.tl_definitions.specs.Region.{is_corner_of, is_inner, inner_corners};
 ghost use Rattle.tl_lists.specs.Lists.{present, put_at};
-ghost use Rattle.tl_definitions.specs.Tiling.{is_tiling, partner};
-ghost use Rattle.tl_formats.specs.Drawing.{letter};
-ghost use Rattle.tl_definitions.specs.Heights.{height, AreHeights, AreLawful};
+ghost use Rattle.tl_definitions.specs.Tiling.{is_tiling};
+ghost use Rattle.tl_definitions.specs.Heights.{height, height_row, AreHeights, AreLawful};
 ghost use Rattle.tl_height.specs.HeightFunction.{falls_between};
 ghost use Rattle.tl_height.specs.Letters.{IsDrawnFrom, row_text};
 ghost use Rattle.tl_height.specs.Standing.{AreCornersOf, all_fall, standing};
 ghost use Rattle.tl_definitions.specs.Limits.{most_height};
 
-use crate::sides::side_ends;
+use crate::letters::{falls_between, write_squares, write_triangles};
 use crate::standing::Standing;
 use std::alloc::{AllocError, Global};
 use std::marker::Model;
-use tl_lattice::{Cell, Corner, steps_in, steps_out};
+use tl_lattice::{Corner, Kind, steps_in, steps_out};
 use tl_region::Region;
 
 /// Lawful heights on the corners of a region: those of exactly one tiling.
@@ -191,47 +190,30 @@ impl<'a> Heights<'a> {
 
     // Writes the letters of a row, and a line feed.
     fn write_row(&self, r: u32, line: &mut [u8])
-        requires { length line.old ≡ self.now.region.columns + 1 }
+        requires row { r < self.now.region.rows }
+        requires size { length line.old ≡ self.now.region.columns + 1 }
         ensures { (A : List Tile) → IsTrue (is_tiling self.now.region A)
             → AreHeights self.now.region A self.now.numbers
             → line.new ≡ row_text self.now.region A r }
     {
-        let columns = self.region.columns();
-        for c in 0..columns {
-            line[c as usize] = self.letter(Cell { r, c });
+        let flags = self.region.row(r);
+        let upper = self.row(r);
+        let lower = self.row(r + 1);
+        match self.region.kind() {
+            Kind::Square => write_squares(flags, upper, lower, line),
+            Kind::Triangle => write_triangles(r, flags, upper, lower, line),
         }
-        line[columns as usize] = b'\n';
+        line[flags.len()] = b'\n';
     }
 
-    // The letter at a place: for a cell, that of the side along which the heights fall.
-    fn letter(&self, cell: Cell) -> u8
-        ensures { (A : List Tile) → IsTrue (is_tiling self.now.region A)
-            → AreHeights self.now.region A self.now.numbers
-            → result ≡ letter cell (partner A cell) }
+    // The numbers of a row.
+    fn row(&self, r: u32) -> &[i32]
+        requires { r < self.now.region.rows + 1 }
+        ensures row { result.now ≡ height_row self.now.region self.now.numbers r }
+        ensures length { length result.now ≡ self.now.region.columns + 2 }
     {
-        if !self.region.has(cell) {
-            return b'.';
-        }
-        let ends = side_ends(self.region.kind(), cell);
-        let upper_left = self.at(ends.upper_left);
-        let upper_right = self.at(ends.upper_right);
-        let lower_left = self.at(ends.lower_left);
-        let lower_right = self.at(ends.lower_right);
-        if falls_between(upper_right, lower_right) {
-            b'>'
-        } else if falls_between(upper_left, lower_left) {
-            b'<'
-        } else if falls_between(lower_left, lower_right) {
-            b'v'
-        } else {
-            b'^'
-        }
+        let width = self.region.columns() as usize + 2;
+        let start = r as usize * width;
+        &self.numbers[start..start + width]
     }
-}
-
-// Whether a step between corners of these heights falls. Along a step the heights rise by 1, or they fall by more.
-fn falls_between(first: i32, second: i32) -> bool
-    ensures { result ≡ falls_between first second }
-{
-    first.abs_diff(second) > 1
 }

@@ -5,7 +5,7 @@
 
 mod filling;
 mod heights;
-mod sides;
+mod letters;
 mod standing;
 #[cfg(test)]
 mod tests;

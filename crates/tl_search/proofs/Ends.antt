@@ -15,14 +15,14 @@ use Rattle.tl_search.proofs.Numbers.{looked_up, look_up, below_reached}
 use Rattle.tl_search.proofs.Paths.{Leads-one, Reaches-step}
 use Rattle.tl_search.proofs.Search.{IsSourceAt, IsFrom, IsReached, IsKnown, IsSettled, IsDone, IsSpreading, fits, source-reached}
 
-module _ (M : GraphMeaning) (sources : List Source) (is_graph : IsGraph M) (are_sources : AreSources M sources) (numbers : List ℤ) (queue : List ℕ) (next head : ℕ) (spreading : IsSpreading M sources numbers queue next head)
-    (no_sources : length sources ≤ next) (no_queue : length queue ≤ head) where
+module _ (M : GraphMeaning) (sources : List Source) (is_graph : IsGraph M) (are_sources : AreSources M sources) (numbers : List ℤ) (queue : List ℕ) (next : ℕ) (spreading : IsSpreading M sources numbers queue next)
+    (no_sources : length sources ≤ next) (no_queue : length queue ≡ 0) where
   done : (v : ℕ) → v < M.count → IsReached numbers v → IsDone M numbers v
   done v inside reached = go (spreading.search.settled v inside reached)
     where
-      go : ⊥ ⊎ IsSettled M sources numbers queue next head v → IsDone M numbers v
+      go : ⊥ ⊎ IsSettled M sources numbers queue next v → IsDone M numbers v
       go (inl never) = absurd never
-      go (inr (inl q)) = absurd (omega (arith, q.waits, q.within, no_queue))
+      go (inr (inl q)) = absurd (omega (arith, q.within, no_queue))
       go (inr (inr (inl s))) = absurd (omega (arith, s.waits, slice_get_within sources s.i s.source s.is_source, no_sources))
       go (inr (inr (inr d))) = d
 

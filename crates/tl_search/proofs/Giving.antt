@@ -40,14 +40,14 @@ IsWrite-from w number numbers queue numbers' queue' inside reached open_before e
 }
 
 -- what the places of a turn come to
-pub record IsAfter (M : GraphMeaning) (sources : List Source) (next head place : ℕ) (level : ℤ) (places : List ℕ) (numbers : List ℤ) (queue : List ℕ) (numbers' : List ℤ) (queue' : List ℕ) : Type 0 where
-  pub turn : IsTurn M sources numbers' queue' next head place level
+pub record IsAfter (M : GraphMeaning) (sources : List Source) (next place : ℕ) (level : ℤ) (places : List ℕ) (numbers : List ℤ) (queue : List ℕ) (numbers' : List ℤ) (queue' : List ℕ) : Type 0 where
+  pub turn : IsTurn M sources numbers' queue' next place level
   pub kept : (v : ℕ) → IsReached numbers v → number_of numbers' v ≡ number_of numbers v
   pub given : (w : ℕ) → In w places → number_of numbers' w ≤ℤ (level +ℤ pos 1)
   pub work : unreached numbers' + length queue' ≡ unreached numbers + length queue
 
-module _ (M : GraphMeaning) (sources : List Source) (is_graph : IsGraph M) (are_sources : AreSources M sources) (next head place : ℕ) (level : ℤ) where
-  module _ (numbers : List ℤ) (queue : List ℕ) (turn : IsTurn M sources numbers queue next head place level) where
+module _ (M : GraphMeaning) (sources : List Source) (is_graph : IsGraph M) (are_sources : AreSources M sources) (next place : ℕ) (level : ℤ) where
+  module _ (numbers : List ℤ) (queue : List ℕ) (turn : IsTurn M sources numbers queue next place level) where
     of_place : IsKnown M sources numbers level place
     of_place = turn.search.known.known place turn.inside turn.reached
 
@@ -157,17 +157,16 @@ module _ (M : GraphMeaning) (sources : List Source) (is_graph : IsGraph M) (are_
               let second = at_new j e in
               omega (arith, ints, first, second)
 
-      levelled : IsLevel sources numbers' queue' next head level
+      levelled : IsLevel sources numbers' queue' next level
       levelled = record {
         next_within = turn.search.levelled.next_within;
-        head_within = omega (arith, turn.search.levelled.head_within, write.longer);
-        of_queue = λ i from h. of_queue i from (places_of i h);
+        of_queue = λ i h. of_queue i (places_of i h);
         of_sources = turn.search.levelled.of_sources;
       }
         where
-          of_queue : (i : ℕ) → head ≤ i → (i < length queue) ⊎ (i ≡ length queue) → level ≤ℤ number_of numbers' (slice_index queue' i)
-          of_queue i from (inl h) = let old = at_old i h in let k = turn.search.levelled.of_queue i from h in omega (arith, ints, old, k)
-          of_queue i from (inr e) = let new = at_new i e in omega (arith, ints, new)
+          of_queue : (i : ℕ) → (i < length queue) ⊎ (i ≡ length queue) → level ≤ℤ number_of numbers' (slice_index queue' i)
+          of_queue i (inl h) = let old = at_old i h in let k = turn.search.levelled.of_queue i h in omega (arith, ints, old, k)
+          of_queue i (inr e) = let new = at_new i e in omega (arith, ints, new)
 
       still_done : (v : ℕ) → v < M.count → IsReached numbers v → IsDone M numbers v → IsDone M numbers' v
       still_done v inside reached done u step = go (cases_eq u w)
@@ -185,18 +184,18 @@ module _ (M : GraphMeaning) (sources : List Source) (is_graph : IsGraph M) (are_
               absurd (omega (arith, ints, high, less, unset))
           go (inr other) = let other_same = write.others u other in omega (arith, ints, same, less, other_same)
 
-      settled : (v : ℕ) → v < M.count → IsReached numbers' v → (v ≡ w) ⊎ (v ≡ w → ⊥) → only place v ⊎ IsSettled M sources numbers' queue' next head v
+      settled : (v : ℕ) → v < M.count → IsReached numbers' v → (v ≡ w) ⊎ (v ≡ w → ⊥) → only place v ⊎ IsSettled M sources numbers' queue' next v
       settled v inside reached (inl e) =
-          inr (inl (record { i = length queue; waits = turn.search.levelled.head_within; within = omega (arith, write.longer); is = write.last (length queue) refl ∙ sym e }))
+          inr (inl (record { i = length queue; within = omega (arith, write.longer); is = write.last (length queue) refl ∙ sym e }))
       settled v inside reached (inr other) = go (turn.search.settled v inside (was_reached v other reached))
         where
-          go : only place v ⊎ IsSettled M sources numbers queue next head v → only place v ⊎ IsSettled M sources numbers' queue' next head v
+          go : only place v ⊎ IsSettled M sources numbers queue next v → only place v ⊎ IsSettled M sources numbers' queue' next v
           go (inl e) = inl e
-          go (inr (inl q)) = inr (inl (record { i = q.i; waits = q.waits; within = omega (arith, q.within, write.longer); is = write.before q.i q.within ∙ q.is }))
+          go (inr (inl q)) = inr (inl (record { i = q.i; within = omega (arith, q.within, write.longer); is = write.before q.i q.within ∙ q.is }))
           go (inr (inr (inl s))) = inr (inr (inl s))
           go (inr (inr (inr d))) = inr (inr (inr (still_done v inside (was_reached v other reached) d)))
 
-      turn-written : IsTurn M sources numbers' queue' next head place level
+      turn-written : IsTurn M sources numbers' queue' next place level
       turn-written = record {
         search = record {
           known = record {
@@ -213,16 +212,16 @@ module _ (M : GraphMeaning) (sources : List Source) (is_graph : IsGraph M) (are_
         reached = still place turn.reached;
       }
 
-  after-none : (numbers : List ℤ) (queue : List ℕ) (numbers' : List ℤ) (queue' : List ℕ) → IsTurn M sources numbers queue next head place level
-      → numbers' ≡ numbers → queue' ≡ queue → IsAfter M sources next head place level [] numbers queue numbers' queue'
+  after-none : (numbers : List ℤ) (queue : List ℕ) (numbers' : List ℤ) (queue' : List ℕ) → IsTurn M sources numbers queue next place level
+      → numbers' ≡ numbers → queue' ≡ queue → IsAfter M sources next place level [] numbers queue numbers' queue'
   after-none numbers queue numbers' queue' turn e f =
-      subst (λ (l : List ℤ). IsAfter M sources next head place level [] numbers queue l queue') (sym e)
-      (subst (λ (q : List ℕ). IsAfter M sources next head place level [] numbers queue numbers q) (sym f)
+      subst (λ (l : List ℤ). IsAfter M sources next place level [] numbers queue l queue') (sym e)
+      (subst (λ (q : List ℕ). IsAfter M sources next place level [] numbers queue numbers q) (sym f)
       (record { turn = turn; kept = λ v reached. refl; given = λ w i. absurd i; work = refl }))
 
   -- one place is given the number
-  after-one : (numbers : List ℤ) (queue : List ℕ) (numbers' : List ℤ) (queue' : List ℕ) (w : ℕ) → IsTurn M sources numbers queue next head place level
-      → IsTrue (has_step M.steps place w) → IsGiven (level +ℤ pos 1) w numbers queue numbers' queue' → IsAfter M sources next head place level (w ∷ []) numbers queue numbers' queue'
+  after-one : (numbers : List ℤ) (queue : List ℕ) (numbers' : List ℤ) (queue' : List ℕ) (w : ℕ) → IsTurn M sources numbers queue next place level
+      → IsTrue (has_step M.steps place w) → IsGiven (level +ℤ pos 1) w numbers queue numbers' queue' → IsAfter M sources next place level (w ∷ []) numbers queue numbers' queue'
   after-one numbers queue numbers' queue' w turn leads (inl (low, e, f)) =
       let same = after-none numbers queue numbers' queue' turn e f in
       record {
@@ -257,17 +256,17 @@ module _ (M : GraphMeaning) (sources : List Source) (is_graph : IsGraph M) (are_
       given v (inr never) = absurd never
 
   -- all places of a list, to each of which a step leads, are given the number
-  pub after : (places : List ℕ) (numbers : List ℤ) (queue : List ℕ) (numbers' : List ℤ) (queue' : List ℕ) → IsTurn M sources numbers queue next head place level
+  pub after : (places : List ℕ) (numbers : List ℤ) (queue : List ℕ) (numbers' : List ℤ) (queue' : List ℕ) → IsTurn M sources numbers queue next place level
       → ((w : ℕ) → In w places → IsTrue (has_step M.steps place w)) → AreGiven (level +ℤ pos 1) places numbers queue numbers' queue'
-      → IsAfter M sources next head place level places numbers queue numbers' queue'
+      → IsAfter M sources next place level places numbers queue numbers' queue'
   after [] numbers queue numbers' queue' turn lead (e, f) = after-none numbers queue numbers' queue' turn e f
   after (w ∷ places) numbers queue numbers' queue' turn lead (between, waiting, first, more) =
       let one = after-one numbers queue between waiting w turn (lead w (inl refl)) first in
       let rest = after places between waiting numbers' queue' one.turn (λ v i. lead v (inr i)) more in
       join between waiting one rest
     where
-      join : (between : List ℤ) (waiting : List ℕ) → IsAfter M sources next head place level (w ∷ []) numbers queue between waiting
-          → IsAfter M sources next head place level places between waiting numbers' queue' → IsAfter M sources next head place level (w ∷ places) numbers queue numbers' queue'
+      join : (between : List ℤ) (waiting : List ℕ) → IsAfter M sources next place level (w ∷ []) numbers queue between waiting
+          → IsAfter M sources next place level places between waiting numbers' queue' → IsAfter M sources next place level (w ∷ places) numbers queue numbers' queue'
       join between waiting one rest = record {
         turn = rest.turn;
         kept = λ v reached. rest.kept v (λ e. reached (sym (one.kept v reached) ∙ e)) ∙ one.kept v reached;
@@ -283,8 +282,8 @@ module _ (M : GraphMeaning) (sources : List Source) (is_graph : IsGraph M) (are_
           given v (inr i) = rest.given v i
 
   -- a turn ends
-  pub turn-end : (numbers : List ℤ) (queue : List ℕ) → IsTurn M sources numbers queue next head place level
-      → ((w : ℕ) → In w (M.steps place) → number_of numbers w ≤ℤ (level +ℤ pos 1)) → IsSpreading M sources numbers queue next head
+  pub turn-end : (numbers : List ℤ) (queue : List ℕ) → IsTurn M sources numbers queue next place level
+      → ((w : ℕ) → In w (M.steps place) → number_of numbers w ≤ℤ (level +ℤ pos 1)) → IsSpreading M sources numbers queue next
   turn-end numbers queue turn given = record {
     level = level;
     search = record {
@@ -295,7 +294,7 @@ module _ (M : GraphMeaning) (sources : List Source) (is_graph : IsGraph M) (are_
     };
   }
     where
-      settled : (v : ℕ) → only place v ⊎ IsSettled M sources numbers queue next head v → ⊥ ⊎ IsSettled M sources numbers queue next head v
+      settled : (v : ℕ) → only place v ⊎ IsSettled M sources numbers queue next v → ⊥ ⊎ IsSettled M sources numbers queue next v
       settled v (inl e) = inr (inr (inr (λ w step.
           let low = given w (subst (λ u. In w (M.steps u)) e (has_step-In M.steps v w step)) in
           let number : number_of numbers v ≡ level = ap (number_of numbers) e ∙ turn.level_is in
@@ -303,11 +302,9 @@ module _ (M : GraphMeaning) (sources : List Source) (is_graph : IsGraph M) (are_
       settled v (inr s) = inr s
 
 -- what is left to do after a turn
-pub smaller : (sources : List Source) (others : List ℤ) (places : List ℕ) (numbers : List ℤ) (queue : List ℕ) (numbers' : List ℤ) (queue' : List ℕ) (next head next' head' place : ℕ)
-    → places ≡ queue → IsTaken sources others places next head next' head' (Some place) → unreached numbers' + length queue' ≡ unreached numbers + length queue
-    → head' ≤ length queue' → next' ≤ length sources
-    → unreached numbers' + (length sources - next') + (length queue' - head') < unreached numbers + (length sources - next) + (length queue - head)
-smaller sources others places numbers queue numbers' queue' next head next' head' place e (inl t) work h k =
-    omega (arith, t.within, t.next_is, t.head_is, work, h, k, ap length e)
-smaller sources others places numbers queue numbers' queue' next head next' head' place e (inr t) work h k =
-    let within = slice_get_within sources next t.source t.is_source in omega (arith, within, t.next_is, t.head_is, work, h, k)
+pub smaller : (sources : List Source) (others numbers : List ℤ) (queue waiting : List ℕ) (numbers' : List ℤ) (queue' : List ℕ) (next next' place : ℕ)
+    → IsTaken sources others queue next waiting next' (Some place) → unreached numbers' + length queue' ≡ unreached numbers + length waiting → next' ≤ length sources
+    → unreached numbers' + (length sources - next') + length queue' < unreached numbers + (length sources - next) + length queue
+smaller sources others numbers queue waiting numbers' queue' next next' place (inl t) work h = omega (arith, ap length t.queue_is, t.next_is, work, h)
+smaller sources others numbers queue waiting numbers' queue' next next' place (inr t) work h =
+    let within = slice_get_within sources next t.source t.is_source in omega (arith, within, ap length t.queue_is, t.next_is, work, h)

@@ -1,5 +1,5 @@
 -- What holds before each turn of the search, and how a turn begins.
-use Rattle.std.proofs.Common.{◌≡◌, ◌≢◌, ◌⊎◌, inl, inr, ℕ, ◌+◌, ◌^◌, ◌<◌, ◌≤◌, List, [], length, Option, Some, None, refl, sym, ◌∙◌, ap, subst, arith, ℤ, pos, neg_ℤ, ◌+ℤ◌, ◌<ℤ◌, ◌≤ℤ◌}
+use Rattle.std.proofs.Common.{◌≡◌, ◌≢◌, ◌⊎◌, inl, inr, ℕ, zero, suc, ◌+◌, ◌^◌, ◌<◌, ◌≤◌, List, [], ◌∷◌, length, Option, Some, None, refl, sym, ◌∙◌, ap, subst, arith, ℤ, pos, neg_ℤ, ◌+ℤ◌, ◌<ℤ◌, ◌≤ℤ◌}
 use Rattle.std.specs.Prelude.{slice_get, slice_index, IsTrue}
 use Rattle.std.proofs.lemmas.Bool.{cases_eq}
 use Rattle.std.proofs.lemmas.Int.{ints}
@@ -8,7 +8,7 @@ use Rattle.tl_search.specs.declared.spreading.Source.{Source}
 use Rattle.tl_search.specs.declared.spreading.TheConstants.{UNREACHED}
 use Rattle.tl_search.specs.Graphs.{GraphMeaning, IsGraph, has_step}
 use Rattle.tl_search.specs.Spreading.{AreSources}
-use Rattle.tl_search.specs.Searching.{number_of, AreFirstNumbers, IsTaken, IsTakenOfQueue, IsTakenOfSources}
+use Rattle.tl_search.specs.Searching.{number_of, AreFirstNumbers, IsTaken, IsTakenOfSources}
 use Rattle.tl_search.proofs.Numbers.{below_reached, unreached, unreached-le}
 
 abbrev pub IsSourceAt : List Source → ℕ → Type 0
@@ -45,15 +45,13 @@ pub record IsQueue (M : GraphMeaning) (numbers : List ℤ) (queue : List ℕ) (l
   pub in_order : (i j : ℕ) → i ≤ j → j < length queue → number_of numbers (slice_index queue i) ≤ℤ number_of numbers (slice_index queue j)
 
 -- The numbers of those that wait are not below the level.
-pub record IsLevel (sources : List Source) (numbers : List ℤ) (queue : List ℕ) (next head : ℕ) (level : ℤ) : Type 0 where
+pub record IsLevel (sources : List Source) (numbers : List ℤ) (queue : List ℕ) (next : ℕ) (level : ℤ) : Type 0 where
   pub next_within : next ≤ length sources
-  pub head_within : head ≤ length queue
-  pub of_queue : (i : ℕ) → head ≤ i → i < length queue → level ≤ℤ number_of numbers (slice_index queue i)
+  pub of_queue : (i : ℕ) → i < length queue → level ≤ℤ number_of numbers (slice_index queue i)
   pub of_sources : (i : ℕ) (s : Source) → next ≤ i → slice_get sources i ≡ Some s → level ≤ℤ s.number
 
-pub record InQueue (queue : List ℕ) (head v : ℕ) : Type 0 where
+pub record InQueue (queue : List ℕ) (v : ℕ) : Type 0 where
   pub i : ℕ
-  pub waits : head ≤ i
   pub within : i < length queue
   pub is : slice_index queue i ≡ v
 
@@ -68,15 +66,15 @@ pub record InSources (sources : List Source) (next v : ℕ) : Type 0 where
 abbrev pub IsDone : GraphMeaning → List ℤ → ℕ → Type 0
 IsDone M numbers v = (w : ℕ) → IsTrue (has_step M.steps v w) → number_of numbers w ≤ℤ (number_of numbers v +ℤ pos 1)
 
-abbrev pub IsSettled : GraphMeaning → List Source → List ℤ → List ℕ → ℕ → ℕ → ℕ → Type 0
-IsSettled M sources numbers queue next head v = InQueue queue head v ⊎ (InSources sources next v ⊎ IsDone M numbers v)
+abbrev pub IsSettled : GraphMeaning → List Source → List ℤ → List ℕ → ℕ → ℕ → Type 0
+IsSettled M sources numbers queue next v = InQueue queue v ⊎ (InSources sources next v ⊎ IsDone M numbers v)
 
 -- Each place that has a number waits or is done, but for those with the property Open.
-pub record IsSearch (M : GraphMeaning) (sources : List Source) (numbers : List ℤ) (queue : List ℕ) (next head : ℕ) (level : ℤ) (Open : ℕ → Type 0) : Type 0 where
+pub record IsSearch (M : GraphMeaning) (sources : List Source) (numbers : List ℤ) (queue : List ℕ) (next : ℕ) (level : ℤ) (Open : ℕ → Type 0) : Type 0 where
   pub known : AreKnown M sources numbers level
   pub queued : IsQueue M numbers queue level
-  pub levelled : IsLevel sources numbers queue next head level
-  pub settled : (v : ℕ) → v < M.count → IsReached numbers v → Open v ⊎ IsSettled M sources numbers queue next head v
+  pub levelled : IsLevel sources numbers queue next level
+  pub settled : (v : ℕ) → v < M.count → IsReached numbers v → Open v ⊎ IsSettled M sources numbers queue next v
 
 abbrev pub none : ℕ → Type 0
 none v = ⊥
@@ -85,13 +83,13 @@ abbrev pub only : ℕ → ℕ → Type 0
 only place v = v ≡ place
 
 -- what holds before a turn
-pub record IsSpreading (M : GraphMeaning) (sources : List Source) (numbers : List ℤ) (queue : List ℕ) (next head : ℕ) : Type 0 where
+pub record IsSpreading (M : GraphMeaning) (sources : List Source) (numbers : List ℤ) (queue : List ℕ) (next : ℕ) : Type 0 where
   pub level : ℤ
-  pub search : IsSearch M sources numbers queue next head level none
+  pub search : IsSearch M sources numbers queue next level none
 
 -- The place whose turn it is. Its number is the level.
-pub record IsTurn (M : GraphMeaning) (sources : List Source) (numbers : List ℤ) (queue : List ℕ) (next head place : ℕ) (level : ℤ) : Type 0 where
-  pub search : IsSearch M sources numbers queue next head level (only place)
+pub record IsTurn (M : GraphMeaning) (sources : List Source) (numbers : List ℤ) (queue : List ℕ) (next place : ℕ) (level : ℤ) : Type 0 where
+  pub search : IsSearch M sources numbers queue next level (only place)
   pub level_is : number_of numbers place ≡ level
   pub inside : place < M.count
   pub reached : IsReached numbers place
@@ -118,6 +116,15 @@ IsQueue-raise M numbers queue level higher h q = record {
   in_order = q.in_order;
 }
 
+-- those that are left in the queue where its first has left
+IsQueue-rest : (M : GraphMeaning) (numbers : List ℤ) (place : ℕ) (queue : List ℕ) (level : ℤ) → IsQueue M numbers (place ∷ queue) level → IsQueue M numbers queue level
+IsQueue-rest M numbers place queue level q = record {
+  inside = λ i within. q.inside (suc i) (omega (arith, within));
+  reached = λ i within. q.reached (suc i) (omega (arith, within));
+  near = λ i within. q.near (suc i) (omega (arith, within));
+  in_order = λ i j h within. q.in_order (suc i) (suc j) (omega (arith, h)) (omega (arith, within));
+}
+
 module _ (M : GraphMeaning) (sources : List Source) (is_graph : IsGraph M) (are_sources : AreSources M sources) where
   pub source-reached : (numbers : List ℤ) (level : ℤ) (i : ℕ) (s : Source) → AreKnown M sources numbers level → slice_get sources i ≡ Some s → IsReached numbers s.place
   source-reached numbers level i s k e =
@@ -132,57 +139,56 @@ module _ (M : GraphMeaning) (sources : List Source) (is_graph : IsGraph M) (are_
       let few = is_graph.few in
       omega (arith, ints, bounded, few)
 
-  module _ (numbers : List ℤ) (queue : List ℕ) (next head : ℕ) (level : ℤ) (search : IsSearch M sources numbers queue next head level none) where
-    turn-of_queue : (next' head' place : ℕ) → IsTakenOfQueue sources numbers queue next head next' head' place → IsTurn M sources numbers queue next' head' place (number_of numbers place)
-    turn-of_queue next' head' place taken = record {
+  -- the first of the queue leaves it
+  module _ (numbers : List ℤ) (place : ℕ) (queue : List ℕ) (next : ℕ) (level : ℤ) (search : IsSearch M sources numbers (place ∷ queue) next level none) where
+    turn-of_queue : (next' : ℕ) → next' ≡ next → ((s : Source) → slice_get sources next ≡ Some s → number_of numbers place <ℤ s.number) → IsTurn M sources numbers queue next' place (number_of numbers place)
+    turn-of_queue next' next_is least = record {
       search = record {
         known = AreKnown-raise M sources numbers level (number_of numbers place) higher search.known;
-        queued = IsQueue-raise M numbers queue level (number_of numbers place) higher search.queued;
+        queued = IsQueue-rest M numbers place queue (number_of numbers place) (IsQueue-raise M numbers (place ∷ queue) level (number_of numbers place) higher search.queued);
         levelled = record {
-          next_within = omega (arith, taken.next_is, search.levelled.next_within);
-          head_within = omega (arith, taken.head_is, taken.within);
-          of_queue = λ i from within. subst (λ v. number_of numbers v ≤ℤ number_of numbers (slice_index queue i)) (sym taken.place_is)
-              (search.queued.in_order head i (omega (arith, from, taken.head_is)) within);
-          of_sources = λ i s from e. of_sources i s (omega (arith, from, taken.next_is)) e (slice_get sources next) refl;
+          next_within = omega (arith, next_is, search.levelled.next_within);
+          of_queue = λ i within. search.queued.in_order 0 (suc i) (omega arith) (omega (arith, within));
+          of_sources = λ i s from e. of_sources i s (omega (arith, from, next_is)) e (slice_get sources next) refl;
         };
         settled = λ v inside reached. settled v (search.settled v inside reached);
       };
       level_is = refl;
-      inside = subst (λ v. v < M.count) (sym taken.place_is) (search.queued.inside head taken.within);
-      reached = subst (λ v. IsReached numbers v) (sym taken.place_is) (search.queued.reached head taken.within);
+      inside = search.queued.inside 0 (omega arith);
+      reached = search.queued.reached 0 (omega arith);
     }
       where
         higher : level ≤ℤ number_of numbers place
-        higher = subst (λ v. level ≤ℤ number_of numbers v) (sym taken.place_is) (search.levelled.of_queue head (omega arith) taken.within)
+        higher = search.levelled.of_queue 0 (omega arith)
 
         of_sources : (i : ℕ) (s : Source) → next ≤ i → slice_get sources i ≡ Some s → (o : Option Source) → slice_get sources next ≡ o → number_of numbers place ≤ℤ s.number
         of_sources i s from e None f =
             let within = slice_get_within sources i s e in
             cc (f, slice_get-get_or sources next s (omega (arith, from, within)))
         of_sources i s from e (Some t) f =
-            let first = taken.least t f in
+            let first = least t f in
             let later = are_sources.in_order next i t s from f e in
             omega (arith, ints, first, later)
 
-        in_queue : (v : ℕ) (q : InQueue queue head v) → (q.i ≡ head) ⊎ (q.i ≡ head → ⊥) → (v ≡ place) ⊎ IsSettled M sources numbers queue next' head' v
-        in_queue v q (inl e) = inl (sym q.is ∙ ap (slice_index queue) e ∙ sym taken.place_is)
-        in_queue v q (inr other) = inr (inl (record { i = q.i; waits = omega (arith, q.waits, other, taken.head_is); within = q.within; is = q.is }))
+        in_queue : (v i : ℕ) → i < length (place ∷ queue) → slice_index (place ∷ queue) i ≡ v → (v ≡ place) ⊎ IsSettled M sources numbers queue next' v
+        in_queue v zero within e = inl (sym e)
+        in_queue v (suc i) within e = inr (inl (record { i = i; within = omega (arith, within); is = e }))
 
-        settled : (v : ℕ) → ⊥ ⊎ IsSettled M sources numbers queue next head v → (v ≡ place) ⊎ IsSettled M sources numbers queue next' head' v
+        settled : (v : ℕ) → ⊥ ⊎ IsSettled M sources numbers (place ∷ queue) next v → (v ≡ place) ⊎ IsSettled M sources numbers queue next' v
         settled v (inl never) = absurd never
-        settled v (inr (inl q)) = in_queue v q (cases_eq q.i head)
-        settled v (inr (inr (inl s))) = inr (inr (inl (record { i = s.i; source = s.source; waits = omega (arith, s.waits, taken.next_is); is_source = s.is_source; is = s.is })))
+        settled v (inr (inl q)) = in_queue v q.i q.within q.is
+        settled v (inr (inr (inl s))) = inr (inr (inl (record { i = s.i; source = s.source; waits = omega (arith, s.waits, next_is); is_source = s.is_source; is = s.is })))
         settled v (inr (inr (inr d))) = inr (inr (inr d))
 
-    turn-of_sources : (next' head' place : ℕ) → IsTakenOfSources sources numbers queue next head next' head' place → IsTurn M sources numbers queue next' head' place (number_of numbers place)
-    turn-of_sources next' head' place taken = record {
+  module _ (numbers : List ℤ) (queue : List ℕ) (next : ℕ) (level : ℤ) (search : IsSearch M sources numbers queue next level none) where
+    turn-of_sources : (queue' : List ℕ) (next' place : ℕ) → IsTakenOfSources sources numbers queue next queue' next' place → IsTurn M sources numbers queue next' place (number_of numbers place)
+    turn-of_sources queue' next' place taken = record {
       search = record {
         known = AreKnown-raise M sources numbers level (number_of numbers place) higher search.known;
         queued = IsQueue-raise M numbers queue level (number_of numbers place) higher search.queued;
         levelled = record {
           next_within = omega (arith, taken.next_is, slice_get_within sources next taken.source taken.is_source);
-          head_within = omega (arith, taken.head_is, search.levelled.head_within);
-          of_queue = λ i from within. of_queue i (omega (arith, from, taken.head_is)) within;
+          of_queue = λ i within. of_queue i within;
           of_sources = λ i s from e.
               let later = are_sources.in_order next i taken.source s (omega (arith, from, taken.next_is)) taken.is_source e in
               omega (arith, ints, later, own);
@@ -200,32 +206,35 @@ module _ (M : GraphMeaning) (sources : List Source) (is_graph : IsGraph M) (are_
         higher : level ≤ℤ number_of numbers place
         higher = let h = search.levelled.of_sources next taken.source (omega arith) taken.is_source in omega (arith, ints, h, own)
 
-        of_queue : (i : ℕ) → head ≤ i → i < length queue → number_of numbers place ≤ℤ number_of numbers (slice_index queue i)
-        of_queue i from within =
-            let first = taken.least (omega (arith, from, within)) in
-            let later = search.queued.in_order head i from within in
+        of_queue : (i : ℕ) → i < length queue → number_of numbers place ≤ℤ number_of numbers (slice_index queue i)
+        of_queue i within =
+            let first = taken.least (omega (arith, within)) in
+            let later = search.queued.in_order 0 i (omega arith) within in
             omega (arith, ints, first, later, own)
 
-        in_sources : (v : ℕ) (s : InSources sources next v) → (s.i ≡ next) ⊎ (s.i ≡ next → ⊥) → (v ≡ place) ⊎ IsSettled M sources numbers queue next' head' v
+        in_sources : (v : ℕ) (s : InSources sources next v) → (s.i ≡ next) ⊎ (s.i ≡ next → ⊥) → (v ≡ place) ⊎ IsSettled M sources numbers queue next' v
         in_sources v s (inl e) =
             let same : s.source ≡ taken.source = same_Some s.source taken.source (sym s.is_source ∙ (ap (slice_get sources) e ∙ taken.is_source)) in
             inl (sym s.is ∙ (ap (λ (t : Source). t.place) same ∙ sym taken.place_is))
         in_sources v s (inr other) = inr (inr (inl (record { i = s.i; source = s.source; waits = omega (arith, s.waits, other, taken.next_is); is_source = s.is_source; is = s.is })))
 
-        settled : (v : ℕ) → ⊥ ⊎ IsSettled M sources numbers queue next head v → (v ≡ place) ⊎ IsSettled M sources numbers queue next' head' v
+        settled : (v : ℕ) → ⊥ ⊎ IsSettled M sources numbers queue next v → (v ≡ place) ⊎ IsSettled M sources numbers queue next' v
         settled v (inl never) = absurd never
-        settled v (inr (inl q)) = inr (inl (record { i = q.i; waits = omega (arith, q.waits, taken.head_is); within = q.within; is = q.is }))
+        settled v (inr (inl q)) = inr (inl q)
         settled v (inr (inr (inl s))) = in_sources v s (cases_eq s.i next)
         settled v (inr (inr (inr d))) = inr (inr (inr d))
 
   -- a turn begins
-  pub turn : (numbers : List ℤ) (queue : List ℕ) (next head next' head' place : ℕ) → IsSpreading M sources numbers queue next head
-      → IsTaken sources numbers queue next head next' head' (Some place) → IsTurn M sources numbers queue next' head' place (number_of numbers place)
-  turn numbers queue next head next' head' place s (inl t) = turn-of_queue numbers queue next head s.level s.search next' head' place t
-  turn numbers queue next head next' head' place s (inr t) = turn-of_sources numbers queue next head s.level s.search next' head' place t
+  pub turn : (numbers : List ℤ) (queue : List ℕ) (next : ℕ) (queue' : List ℕ) (next' place : ℕ) → IsSpreading M sources numbers queue next
+      → IsTaken sources numbers queue next queue' next' (Some place) → IsTurn M sources numbers queue' next' place (number_of numbers place)
+  turn numbers queue next queue' next' place s (inl t) =
+      turn-of_queue numbers place queue' next s.level (subst (λ (q : List ℕ). IsSearch M sources numbers q next s.level none) t.queue_is s.search) next' t.next_is t.least
+  turn numbers queue next queue' next' place s (inr t) =
+      subst (λ (q : List ℕ). IsTurn M sources numbers q next' place (number_of numbers place)) (sym t.queue_is)
+      (turn-of_sources numbers queue next s.level s.search queue' next' place t)
 
   -- before the first turn
-  pub first-search : (numbers : List ℤ) → AreFirstNumbers M sources numbers → IsSpreading M sources numbers [] 0 0
+  pub first-search : (numbers : List ℤ) → AreFirstNumbers M sources numbers → IsSpreading M sources numbers [] 0
   first-search numbers first = record {
     level = neg_ℤ (pos (2 ^ 30));
     search = record {
@@ -238,8 +247,7 @@ module _ (M : GraphMeaning) (sources : List Source) (is_graph : IsGraph M) (are_
       };
       levelled = record {
         next_within = omega arith;
-        head_within = omega arith;
-        of_queue = λ i h k. absurd (omega (arith, k));
+        of_queue = λ i h. absurd (omega (arith, h));
         of_sources = λ i s h e. are_sources.low i s e;
       };
       settled = λ v inside reached. inr (inr (inl (waits v (first.others v inside reached))));

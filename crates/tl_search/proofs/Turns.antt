@@ -9,18 +9,16 @@ use Rattle.tl_search.proofs.Search.{IsSpreading, IsTurn, turn}
 use Rattle.tl_search.proofs.Giving.{below}
 
 module _ (M : GraphMeaning) (sources : List Source) (is_graph : IsGraph M) (are_sources : AreSources M sources) where
-  pub turn-taken : (numbers others : List ℤ) (queue places : List ℕ) (next head next' head' place : ℕ) → others ≡ numbers → places ≡ queue
-      → IsSpreading M sources numbers queue next head → IsTaken sources others places next head next' head' (Some place)
-      → IsTurn M sources numbers queue next' head' place (number_of numbers place)
-  turn-taken numbers others queue places next head next' head' place e f s t =
-      turn M sources is_graph are_sources numbers queue next head next' head' place s
-      (subst (λ (l : List ℤ). IsTaken sources l queue next head next' head' (Some place)) e (subst (λ (q : List ℕ). IsTaken sources others q next head next' head' (Some place)) f t))
+  pub turn-taken : (numbers others : List ℤ) (queue : List ℕ) (next : ℕ) (queue' : List ℕ) (next' place : ℕ) → others ≡ numbers
+      → IsSpreading M sources numbers queue next → IsTaken sources others queue next queue' next' (Some place) → IsTurn M sources numbers queue' next' place (number_of numbers place)
+  turn-taken numbers others queue next queue' next' place e s t =
+      turn M sources is_graph are_sources numbers queue next queue' next' place s (subst (λ (l : List ℤ). IsTaken sources l queue next queue' next' (Some place)) e t)
 
   -- the next number fits
-  pub next-fits : (numbers : List ℤ) (queue : List ℕ) (next head place : ℕ) → IsTurn M sources numbers queue next head place (number_of numbers place)
+  pub next-fits : (numbers : List ℤ) (queue : List ℕ) (next place : ℕ) → IsTurn M sources numbers queue next place (number_of numbers place)
       → (neg_ℤ (pos (2 ^ 30)) ≤ℤ number_of numbers place) × ((number_of numbers place +ℤ pos 1) <ℤ pos (2 ^ 31))
-  next-fits numbers queue next head place t =
-      let high = below M sources is_graph are_sources next head place (number_of numbers place) numbers queue t in
+  next-fits numbers queue next place t =
+      let high = below M sources is_graph are_sources next place (number_of numbers place) numbers queue t in
       ((t.search.known.known place t.inside t.reached).low, omega (arith, ints, high))
 
 pub given-of : (number level : ℤ) (places : List ℕ) (numbers others : List ℤ) (queue : List ℕ) (numbers' : List ℤ) (queue' : List ℕ) (stop : Option ℕ)

@@ -13,14 +13,14 @@ use Rattle.tl_search.proofs.Paths.{In-has_step}
 use Rattle.tl_search.proofs.Search.{IsSourceAt, IsFrom, IsReached, IsKnown, IsTurn}
 use Rattle.tl_search.proofs.Giving.{IsAfter, after, below}
 
-module _ (M : GraphMeaning) (sources : List Source) (is_graph : IsGraph M) (are_sources : AreSources M sources) (next head place : ℕ) (level : ℤ) (numbers : List ℤ) (queue : List ℕ) (turn : IsTurn M sources numbers queue next head place level)
+module _ (M : GraphMeaning) (sources : List Source) (is_graph : IsGraph M) (are_sources : AreSources M sources) (next place : ℕ) (level : ℤ) (numbers : List ℤ) (queue : List ℕ) (turn : IsTurn M sources numbers queue next place level)
     (numbers' : List ℤ) (queue' : List ℕ) (end : ℕ) (stopped : IsStopped (level +ℤ pos 1) (M.steps place) end numbers queue numbers' queue') where
-  stop-after : IsAfter M sources next head place level stopped.front numbers queue numbers' queue'
+  stop-after : IsAfter M sources next place level stopped.front numbers queue numbers' queue'
   stop-after =
-      after M sources is_graph are_sources next head place level stopped.front numbers queue numbers' queue' turn
+      after M sources is_graph are_sources next place level stopped.front numbers queue numbers' queue' turn
       (λ w i. In-has_step M.steps place w (subst (In w) (sym stopped.places_are) (In-left w stopped.front (end ∷ stopped.back) i))) stopped.given
 
-  pub stop-turn : IsTurn M sources numbers' queue' next head place level
+  pub stop-turn : IsTurn M sources numbers' queue' next place level
   stop-turn = stop-after.turn
 
   pub stop-step : IsTrue (has_step M.steps place end)
@@ -45,7 +45,7 @@ module _ (M : GraphMeaning) (sources : List Source) (is_graph : IsGraph M) (are_
   module _ (path : List ℕ) (traced : IsTraced M numbers' place end path) where
     first-reached : IsReached numbers' traced.first
     first-reached =
-        let high = below M sources is_graph are_sources next head place level numbers' queue' stop-turn in
+        let high = below M sources is_graph are_sources next place level numbers' queue' stop-turn in
         below_reached (number_of numbers' traced.first) (omega (arith, ints, high, traced.rises, traced.longer, stop-turn.level_is))
 
     first-source : IsSourceAt sources traced.first

@@ -13,26 +13,24 @@ pub record AreFirstNumbers (M : GraphMeaning) (sources : List Source) (numbers :
   pub own : (i : ℕ) (s : Source) → slice_get sources i ≡ Some s → number_of numbers s.place ≡ s.number
   pub others : (v : ℕ) → v < M.count → number_of numbers v ≢ UNREACHED → (i : ℕ) × (s : Source) × (slice_get sources i ≡ Some s) × (s.place ≡ v)
 
--- The place taken is the next of the queue or that of the next source, whichever has the lesser number.
-pub record IsTakenOfQueue (sources : List Source) (numbers : List ℤ) (queue : List ℕ) (next head next' head' place : ℕ) : Type 0 where
-  pub within : head < length queue
-  pub place_is : place ≡ slice_index queue head
+-- The place taken is the first of the queue, which it leaves, or that of the next source, whichever has the lesser number.
+pub record IsTakenOfQueue (sources : List Source) (numbers : List ℤ) (queue : List ℕ) (next : ℕ) (queue' : List ℕ) (next' place : ℕ) : Type 0 where
+  pub queue_is : queue ≡ place ∷ queue'
   pub next_is : next' ≡ next
-  pub head_is : head' ≡ head + 1
   pub least : (s : Source) → slice_get sources next ≡ Some s → number_of numbers place <ℤ s.number
 
-pub record IsTakenOfSources (sources : List Source) (numbers : List ℤ) (queue : List ℕ) (next head next' head' place : ℕ) : Type 0 where
+pub record IsTakenOfSources (sources : List Source) (numbers : List ℤ) (queue : List ℕ) (next : ℕ) (queue' : List ℕ) (next' place : ℕ) : Type 0 where
   pub source : Source
   pub is_source : slice_get sources next ≡ Some source
   pub place_is : place ≡ source.place
+  pub queue_is : queue' ≡ queue
   pub next_is : next' ≡ next + 1
-  pub head_is : head' ≡ head
-  pub least : head < length queue → source.number ≤ℤ number_of numbers (slice_index queue head)
+  pub least : 0 < length queue → source.number ≤ℤ number_of numbers (slice_index queue 0)
 
-abbrev pub IsTaken : List Source → List ℤ → List ℕ → ℕ → ℕ → ℕ → ℕ → Option ℕ → Type 0
-IsTaken sources numbers queue next head next' head' None = (length sources ≤ next) × (length queue ≤ head)
-IsTaken sources numbers queue next head next' head' (Some place) =
-    IsTakenOfQueue sources numbers queue next head next' head' place ⊎ IsTakenOfSources sources numbers queue next head next' head' place
+abbrev pub IsTaken : List Source → List ℤ → List ℕ → ℕ → List ℕ → ℕ → Option ℕ → Type 0
+IsTaken sources numbers queue next queue' next' None = (length sources ≤ next) × (length queue ≡ 0)
+IsTaken sources numbers queue next queue' next' (Some place) =
+    IsTakenOfQueue sources numbers queue next queue' next' place ⊎ IsTakenOfSources sources numbers queue next queue' next' place
 
 -- A number is given to a place that has none, and one that is no greater stays. Other numbers are too great.
 pub record IsTooGreat (number : ℤ) (to : ℕ) (numbers : List ℤ) (queue : List ℕ) (numbers' : List ℤ) (queue' : List ℕ) : Type 0 where

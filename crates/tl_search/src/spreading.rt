@@ -17,6 +17,7 @@ ghost use Rattle.tl_search.specs.Searching.{
 
 use crate::Graph;
 use std::alloc::{AllocError, Global};
+use std::collections::VecDeque;
 
 /// The number of a place that no path reaches.
 pub const UNREACHED: i32 = i32::MAX;
@@ -64,22 +65,19 @@ fn is_below_next(number: i32, sources: &[Source], next: usize) -> bool
     }
 }
 
-// Takes the place with the least number from the sources and the queue, of which `next` and `head` have been taken.
+// Takes the place with the least number from the queue, or from the sources, of which `next` have been taken.
 fn take(
     sources: &[Source],
     numbers: &[i32],
-    queue: &[u32],
+    queue: &mut VecDeque<u32>,
     next: &mut usize,
-    head: &mut usize,
 ) -> Option<u32>
-    requires { (i : ℕ) → i < length queue.now → slice_index queue.now i < length numbers.now }
-    ensures { IsTaken sources.now numbers.now queue.now next.old head.old next.new head.new result }
+    requires { (i : ℕ) → i < length queue.old.items → slice_index queue.old.items i < length numbers.now }
+    ensures { IsTaken sources.now numbers.now queue.old.items next.old queue.new.items next.new result }
 {
-    if *head < queue.len() {
-        let place = queue[*head];
+    if let Some(&place) = queue.front() {
         if is_below_next(numbers[place as usize], sources, *next) {
-            *head += 1;
-            return Some(place);
+            return queue.pop_front();
         }
     }
     if *next < sources.len() {
@@ -94,7 +92,7 @@ fn take(
 // whether the place has a greater number already.
 fn give(
     numbers: &mut [i32],
-    queue: &mut Vec<u32>,
+    queue: &mut VecDeque<u32>,
     number: i32,
     step: Option<u32>,
 ) -> Result<bool, AllocError>
@@ -113,7 +111,7 @@ fn give(
         return Ok(true);
     }
     numbers[to as usize] = number;
-    queue.push(to)?;
+    queue.push_back(to)?;
     Ok(false)
 }
 
@@ -123,7 +121,7 @@ fn pass_on<G: Graph>(
     place: u32,
     number: i32,
     numbers: &mut [i32],
-    queue: &mut Vec<u32>,
+    queue: &mut VecDeque<u32>,
 ) -> Result<Option<u32>, AllocError>
     requires is_graph { IsGraph (G.meaning graph.now) }
     requires is_place { IsTrue ((G.meaning graph.now).is_place place) }
@@ -216,16 +214,9 @@ pub fn spread<G: Graph>(alloc: Global, graph: &G, sources: &[Source]) -> Result<
     ensures { IfOk result (IsSpread (G.meaning graph.now) sources.now) }
 {
     let mut numbers = first_numbers(alloc, graph, sources)?;
-    let mut queue: Vec<u32> = Vec::with_capacity(alloc, numbers.len())?;
+    let mut queue = VecDeque::new(alloc);
     let mut next = 0;
-    let mut head = 0;
-    while let Some(place) = take(
-        sources,
-        numbers.as_slice(),
-        queue.as_slice(),
-        &mut next,
-        &mut head,
-    ) {
+    while let Some(place) = take(sources, numbers.as_slice(), &mut queue, &mut next) {
         let number = numbers[place as usize] + 1;
         if let Some(end) = pass_on(graph, place, number, numbers.as_mut_slice(), &mut queue)? {
             return Ok(Outcome::Undercut(path_to(alloc, graph, numbers.as_slice(), place, end)?));
