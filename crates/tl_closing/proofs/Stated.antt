@@ -53,6 +53,8 @@ pub use Rattle.tl_closing.proofs.RingTiles.{dart-step-in, dart-step-out, hi-cove
 pub use Rattle.tl_closing.proofs.Exchange.{In-is_in, is_in-In}
 -- Raising the height at a corner where a tiling stands low is putting it high there, and lowering is putting it low.
 pub use Rattle.tl_closing.proofs.Flips.{lo-at}
+-- And so the flipped tiling has these heights.
+pub use Rattle.tl_closing.proofs.Flipped.{lowered-flip, raised-flip}
 -- The total by colours. The signs of all sides of the cells add up to it, as the two sides of an edge between two
 -- cells of the region have opposite signs.
 pub use Rattle.tl_closing.proofs.Colours.{signs-total, total-colours}

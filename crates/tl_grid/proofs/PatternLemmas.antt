@@ -1,5 +1,5 @@
 -- The pattern of a corner, and what it tells.
-use Rattle.std.proofs.Common.{◌≡◌, ℕ, ◌+◌, ◌-◌, ◌≢◌, ◌%◌, ◌<◌, ◌⊎◌, inl, inr, Bool, true, false, not, ◌&&◌, ◌||◌, List, [], ◌∷◌, map, length, cond, Option, Some, None, refl, sym, ◌∙◌, ap, subst, arith, get_or}
+use Rattle.std.proofs.Common.{◌≡◌, ℕ, zero, suc, ◌+◌, ◌-◌, ◌≢◌, ◌%◌, ◌<◌, ◌⊎◌, inl, inr, Bool, true, false, not, ◌&&◌, ◌||◌, List, [], ◌∷◌, map, length, cond, Option, Some, None, refl, sym, ◌∙◌, ap, subst, arith, get_or}
 use Rattle.std.proofs.lemmas.Bool.{and_parts}
 use Rattle.std.proofs.lemmas.Bool.Decides.{nat_tests}
 use Rattle.std.proofs.lemmas.List.Sums.{sum_by-cons}
@@ -235,6 +235,15 @@ pattern-facts R v p q = go (is_corner R.kind v) refl
         ap (λ (b : Bool). cond b told no_facts) (parity-corner R.kind v ∙ c)
         ∙ (λ i. record { is_pinch = pinch i; is_inner = sym c i && inner i; is_touched = touched c i; steps = outward c i; exit = exit i })
         ∙ sym (ap (λ (b : Bool). cond b real no_facts) c)
+
+-- no cell tells nothing
+pub facts-none : (k : Kind) (parity : ℕ) → parity < 2 → facts_by k parity 0 ≡ no_facts
+facts-none Square zero h = refl
+facts-none Square (suc zero) h = refl
+facts-none Square (suc (suc n)) h = absurd (omega (arith, h))
+facts-none Triangle zero h = refl
+facts-none Triangle (suc zero) h = refl
+facts-none Triangle (suc (suc n)) h = absurd (omega (arith, h))
 
 -- ---- the flags of two rows
 

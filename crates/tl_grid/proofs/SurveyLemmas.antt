@@ -88,11 +88,35 @@ among-more R r x old new f is a pinch start boundary corners edges inner exits =
         last true ns = refl
         last false ns = append-nil ns
 
+-- a place with no facts adds its exit alone
+pub among-none : (R : Region) (r x : ℕ) (old new : Survey) → facts_of R (corner r x) ≡ no_facts
+    → IsSurveyAmong R (corners_before (R.columns + 2) r x) old
+    → new ≡ record { pinch = old.pinch; start = old.start; boundary = old.boundary; corners = old.corners; edges = old.edges; inner = old.inner; exits = new.exits }
+    → new.exits.items ≡ old.exits.items ++ (NO_EXIT ∷ [])
+    → IsSurveyAmong R (corners_before (R.columns + 2) r (x + 1)) new
+among-none R r x old new is a same exits =
+    among-more R r x old new no_facts (sym is) a
+    (ap (λ (s : Survey). s.pinch) same ∙ none_more old.pinch)
+    (ap (λ (s : Survey). s.start) same ∙ none_more old.start)
+    (ap (λ (s : Survey). s.boundary) same ∙ omega arith)
+    (ap (λ (s : Survey). s.corners) same ∙ omega arith)
+    (ap (λ (s : Survey). s.edges) same ∙ omega arith)
+    (ap (λ (s : Survey). s.inner.items) same)
+    exits
+  where
+    none_more : (o : Option Corner) → o ≡ option_or o None
+    none_more None = refl
+    none_more (Some v) = refl
+
 -- ---- there are few
 
 pub bool_byte-few : (b : Bool) → bool_byte b ≤ 1
 bool_byte-few true = omega arith
 bool_byte-few false = omega arith
+
+pub one_more : (b : Bool) (n : ℕ) → cond b (n + 1) n ≡ n + bool_byte b
+one_more true n = refl
+one_more false n = omega arith
 
 steps-few : (R : Region) (v : Corner) → (facts_of R v).steps ≤ 6
 steps-few R v = go (is_corner R.kind v) refl

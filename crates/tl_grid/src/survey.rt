@@ -1,12 +1,15 @@
 //! One look at each corner of a grid.
 
-ghost use Rattle.std.specs.Prelude.{◌≡◌, ◌+◌, ◌*◌, ◌<◌, ◌≤◌, ◌++◌, ◌∷◌, [], if◌then◌else◌, map, IfOk, OnOk};
+ghost use Rattle.std.specs.Prelude.{◌≡◌, ◌+◌, ◌*◌, ◌%◌, ◌<◌, ◌≤◌, ◌++◌, ◌∷◌, [], if◌then◌else◌, map, IfOk, OnOk};
+ghost use Rattle.std.specs.Option.{option_or};
+ghost use Rattle.std.specs.Bool.{then_some};
 ghost use Rattle.tl_definitions.specs.Lattice.{corner as corner_of, cell_back};
+ghost use Rattle.tl_definitions.specs.Limits.{most_corners};
 ghost use Rattle.tl_definitions.specs.Region.{has_at, corners_before};
 ghost use Rattle.tl_lists.specs.Lists.{upto};
 ghost use Rattle.tl_grid.specs.Grid.{IsGrid};
-ghost use Rattle.tl_grid.specs.Patterns.{AreAllFacts, facts_of};
-ghost use Rattle.tl_grid.specs.Survey.{IsSurveyOf, IsSurveyAmong};
+ghost use Rattle.tl_grid.specs.Patterns.{AreAllFacts, facts_by, facts_of};
+ghost use Rattle.tl_grid.specs.Survey.{IsSurveyOf, IsSurveyAmong, has_exit as has_exit_in};
 
 use crate::grid::Grid;
 use crate::patterns::{FactTable, NO_EXIT, RingFacts, next_pattern};
@@ -54,6 +57,27 @@ fn row_above(grid: &Grid, r: u32) -> &[bool]
 }
 
 impl Survey {
+    // Takes in whether the corner is a pinch or a boundary corner: few corners are.
+    fn see_boundary(&mut self, corner: Corner, facts: RingFacts)
+        requires { self.old.boundary ≤ most_corners }
+        ensures { self.new ≡ record {
+          pinch = option_or self.old.pinch (then_some facts.is_pinch corner);
+          start = option_or self.old.start (then_some (has_exit_in facts) corner);
+          boundary = if has_exit_in facts then self.old.boundary + 1 else self.old.boundary;
+          corners = self.old.corners;
+          edges = self.old.edges;
+          inner = self.old.inner;
+          exits = self.old.exits;
+        } }
+    {
+        let has_exit = facts.exit != NO_EXIT;
+        if has_exit || facts.is_pinch {
+            self.pinch = self.pinch.or(facts.is_pinch.then_some(corner));
+            self.start = self.start.or(has_exit.then_some(corner));
+            self.boundary += u32::from(has_exit);
+        }
+    }
+
     // Takes in what the ring of the next corner place tells.
     fn see(&mut self, grid: &Grid, corner: Corner, facts: RingFacts) -> Result<(), AllocError>
         requires is_grid { IsGrid grid.now }
@@ -65,10 +89,7 @@ impl Survey {
         ensures seen { OnOk result (IsSurveyAmong grid.now
             (corners_before (grid.now.columns + 2) corner.r (corner.x + 1)) self.new) }
     {
-        let has_exit = facts.exit != NO_EXIT;
-        self.pinch = self.pinch.or(facts.is_pinch.then_some(corner));
-        self.start = self.start.or(has_exit.then_some(corner));
-        self.boundary += u32::from(has_exit);
+        self.see_boundary(corner, facts);
         self.corners += u32::from(facts.is_touched);
         self.edges += u32::from(facts.steps);
         push_if(
@@ -78,6 +99,34 @@ impl Survey {
         )?;
         self.exits.push(facts.exit)?;
         Ok(())
+    }
+
+    // Takes in the ring of the next corner place, whose cells have this pattern.
+    fn see_ring(
+        &mut self,
+        table: &FactTable,
+        grid: &Grid,
+        corner: Corner,
+        pattern: u8,
+    ) -> Result<(), AllocError>
+        requires is_grid { IsGrid grid.now }
+        requires row { corner.r < grid.now.rows + 1 }
+        requires column { corner.x < grid.now.columns + 2 }
+        requires table { AreAllFacts grid.now.kind table.now.all }
+        requires pattern { pattern < 64 }
+        requires facts { facts_by grid.now.kind ((corner.r + corner.x) % 2) pattern ≡ facts_of grid.now corner }
+        requires seen { IsSurveyAmong grid.now
+            (corners_before (grid.now.columns + 2) corner.r corner.x) self.old }
+        ensures seen { OnOk result (IsSurveyAmong grid.now
+            (corners_before (grid.now.columns + 2) corner.r (corner.x + 1)) self.new) }
+    {
+        // No cell is near most places of a sparse grid.
+        if pattern == 0 {
+            self.exits.push(NO_EXIT)?;
+            return Ok(());
+        }
+        let facts = table.at(grid.kind(), (corner.r + corner.x) % 2, pattern);
+        self.see(grid, corner, facts)
     }
 
     // Takes in what the rings of a row of corner places tell.
@@ -94,8 +143,7 @@ impl Survey {
         let mut pattern = 0;
         for x in 0..grid.columns() + 2 {
             pattern = next_pattern(pattern, above[x as usize], below[x as usize]);
-            let facts = table.at(grid.kind(), (r + x) % 2, pattern);
-            self.see(grid, Corner { r, x }, facts)?;
+            self.see_ring(table, grid, Corner { r, x }, pattern)?;
         }
         Ok(())
     }

@@ -3,3 +3,8 @@ mod LeastMember
 mod UnderTarget
 mod Choices
 mod Greatest
+mod Gaps
+mod Numbers
+mod Places
+mod OneFlip
+mod Distance

@@ -1,18 +1,20 @@
-//! Lawful heights compared: the corner to raise on the way to higher ones, the greater and the lesser of two, and the
-//! top and the bottom tiling.
+//! Lawful heights compared: the corner to raise on the way to higher ones, the greater and the lesser of two, the top and
+//! the bottom tiling, and the number of flips between two tilings.
 //!
 //! The crate has no code to run. Each of its functions has an empty body, and its contract is a theorem.
 #![tactic(auto)]
 
-ghost use Rattle.std.specs.Prelude.{◌≡◌, ◌↔◌, List, ℤ, ◌<ℤ◌, IsTrue};
+ghost use Rattle.std.specs.Prelude.{◌≡◌, ◌↔◌, ℕ, ◌*◌, List, ℤ, ◌<ℤ◌, IsTrue};
 ghost use Rattle.tl_definitions.specs.declared.Corner.{Corner};
 ghost use Rattle.tl_definitions.specs.declared.Tile.{Tile};
+ghost use Rattle.tl_definitions.specs.Lattice.{rise};
 ghost use Rattle.tl_definitions.specs.Region.{Region, is_corner_of, is_inner};
 ghost use Rattle.tl_definitions.specs.Accepted.{Accepted};
 ghost use Rattle.tl_definitions.specs.Tiling.{is_tiling};
 ghost use Rattle.tl_definitions.specs.Heights.{height, AreHeights, AreLawful};
-ghost use Rattle.tl_definitions.specs.Flip.{IsTop, IsBottom};
+ghost use Rattle.tl_definitions.specs.Flip.{IsTop, IsBottom, IsFlipDistance};
 ghost use Rattle.tl_closing.specs.Standing.{falls_from, falls_to};
+ghost use Rattle.tl_lawful.specs.HeightGap.{height_gap};
 ghost use Rattle.tl_lawful.specs.Order.{AreGreatest, AreLeast, AreGreaterOf, AreLesserOf};
 
 /// Where lawful heights are under others somewhere, they can be raised at an inner corner that is under, too: they
@@ -47,4 +49,12 @@ pub fn top_is_greatest()
         → AreHeights R A numbers → IsBottom R A ↔ AreLeast R numbers }
     ensures one_top { (R : Region) (A B : List Tile) → Accepted R → IsTop R A → IsTop R B → A ≡ B }
     ensures one_bottom { (R : Region) (A B : List Tile) → Accepted R → IsBottom R A → IsBottom R B → A ≡ B }
+{}
+
+/// The least number of flips from one tiling to another is the sum of the differences of their heights, over the rise of a
+/// flip.
+pub fn distance_by_heights()
+    ensures { (R : Region) (A B : List Tile) (a b : List ℤ) → Accepted R → IsTrue (is_tiling R A) → AreHeights R A a
+        → IsTrue (is_tiling R B) → AreHeights R B b
+        → (n : ℕ) × (height_gap a b ≡ rise R.kind * n) × IsFlipDistance R A B n }
 {}

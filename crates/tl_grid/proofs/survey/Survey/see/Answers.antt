@@ -1,34 +1,36 @@
-use Rattle.std.proofs.Common.{◌+◌, ◌++◌, ◌∷◌, [], cond, ◌∙◌, ap, arith, ℕ}
-use Rattle.std.specs.Option.{option_or}
-use Rattle.std.specs.Prelude.{not, ◌==◌}
-use Rattle.tl_grid.specs.declared.patterns.TheConstants.{NO_EXIT}
-use Rattle.tl_grid.proofs.SurveyLemmas.{among-more, among-few, bool_byte-few}
+use Rattle.std.proofs.Common.{◌+◌, ◌++◌, ◌∷◌, [], cond, ◌∙◌, ap, arith}
+use Rattle.tl_grid.specs.declared.survey.Survey.{Survey}
+use Rattle.tl_grid.specs.Survey.{has_exit}
+use Rattle.tl_grid.proofs.SurveyLemmas.{among-more, among-few, bool_byte-few, one_more}
 use Rattle.tl_grid.proofs.survey.Survey.see.Goals as goal
+
+pub see_boundary-requires : goal.see_boundary-requires
+see_boundary-requires c =
+    let few = among-few c.args.grid.now c.args.corner.r c.args.corner.x c.args.self.now c.requires.is_grid c.requires.row c.requires.column c.requires.seen in
+    few.0
 
 pub overflow_add-self : goal.overflow_add-self
 overflow_add-self c =
     let few = among-few c.args.grid.now c.args.corner.r c.args.corner.x c.args.self.now c.requires.is_grid c.requires.row c.requires.column c.requires.seen in
-    omega (arith, few.0, c.from.ensures, bool_byte-few (not (c.args.facts.exit == NO_EXIT)))
+    omega (arith, few.1, ap (λ (s : Survey). s.corners) c.see_boundary.ensures, c.from.ensures, bool_byte-few c.args.facts.is_touched)
 
 pub overflow_add-self-2 : goal.overflow_add-self-2
 overflow_add-self-2 c =
     let few = among-few c.args.grid.now c.args.corner.r c.args.corner.x c.args.self.now c.requires.is_grid c.requires.row c.requires.column c.requires.seen in
-    omega (arith, few.1, c.from-2.ensures, bool_byte-few c.args.facts.is_touched)
-
-pub overflow_add-self-3 : goal.overflow_add-self-3
-overflow_add-self-3 c =
-    let few = among-few c.args.grid.now c.args.corner.r c.args.corner.x c.args.self.now c.requires.is_grid c.requires.row c.requires.column c.requires.seen in
-    omega (arith, few.2, c.from-3.ensures)
+    omega (arith, few.2, ap (λ (s : Survey). s.edges) c.see_boundary.ensures, c.from-2.ensures)
 
 pub returns : goal.returns
-returns c = record {
-  seen =
-      among-more c.args.grid.now c.args.corner.r c.args.corner.x c.args.self.now _ c.args.facts c.requires.facts c.requires.seen
-      (c.or-self.ensures ∙ ap (option_or c.args.self.now.pinch) c.then_some.ensures)
-      (c.or-self-2.ensures ∙ ap (option_or c.args.self.now.start) c.then_some-2.ensures)
-      (ap (λ (n : ℕ). c.args.self.now.boundary + n) c.from.ensures)
-      (ap (λ (n : ℕ). c.args.self.now.corners + n) c.from-2.ensures)
-      (ap (λ (n : ℕ). c.args.self.now.edges + n) c.from-3.ensures)
-      (c.in_ok-push_if.ensures ∙ ap (λ (n : ℕ). cond c.args.facts.is_inner (c.args.self.now.inner.items ++ n ∷ []) c.args.self.now.inner.items) c.corner_place.ensures.place)
-      c.in_ok-push.ensures.items;
-}
+returns c =
+    let old : Survey = c.args.self.now in
+    let b = c.see_boundary.ensures in record {
+      seen =
+          among-more c.args.grid.now c.args.corner.r c.args.corner.x old _ c.args.facts c.requires.facts c.requires.seen
+          (ap (λ (s : Survey). s.pinch) b)
+          (ap (λ (s : Survey). s.start) b)
+          (ap (λ (s : Survey). s.boundary) b ∙ one_more (has_exit c.args.facts) old.boundary)
+          (λ i. (b i).corners + c.from.ensures i)
+          (λ i. (b i).edges + c.from-2.ensures i)
+          (c.in_ok-push_if.ensures
+          ∙ (λ i. cond c.args.facts.is_inner ((b i).inner.items ++ c.corner_place.ensures.place i ∷ []) (b i).inner.items))
+          (c.in_ok-push.ensures.items ∙ (λ i. (b i).exits.items ++ c.args.facts.exit ∷ []));
+    }

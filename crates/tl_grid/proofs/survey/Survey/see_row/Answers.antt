@@ -1,9 +1,7 @@
-use Rattle.std.proofs.Common.{◌≡◌, ◌+◌, ◌%◌, length, ap, sym, ◌∙◌, subst, arith, ℕ}
-use Rattle.tl_definitions.specs.declared.Kind.{Kind}
+use Rattle.std.proofs.Common.{◌≡◌, ◌+◌, length, ap, sym, subst, arith, ℕ}
 use Rattle.tl_definitions.specs.Lattice.{corner}
 use Rattle.tl_definitions.specs.Region.{corners_before}
 use Rattle.tl_definitions.proofs.CornerRows.{before-row}
-use Rattle.tl_grid.specs.Patterns.{facts_by, AreAllFacts}
 use Rattle.tl_grid.specs.Survey.{IsSurveyAmong}
 use Rattle.tl_grid.proofs.PatternLemmas.{pattern-flags, pattern-before, pattern-facts, length-above, length-row}
 use Rattle.tl_grid.proofs.survey.Survey.see_row.Goals as goal
@@ -16,23 +14,19 @@ pub bounds-below-x : goal.bounds-below-x
 bounds-below-x c =
     omega (arith, c.loop-x-test.true, c.columns-x-end.ensures.columns, ap length c.row-below.ensures.row, length-row c.args.grid.now c.args.r)
 
-pub at-facts-requires-clause-table : goal.at-facts-requires-clause-table
-at-facts-requires-clause-table c = subst (λ (k : Kind). AreAllFacts k c.args.table.now.all) (sym c.kind.ensures.kind) c.requires.table
-
-pub at-facts-requires-clause-pattern : goal.at-facts-requires-clause-pattern
-at-facts-requires-clause-pattern c =
+pub see_ring-requires-clause-pattern : goal.see_ring-requires-clause-pattern
+see_ring-requires-clause-pattern c =
     let here = pattern-flags c.args.grid.now c.args.r c.loop-x.x c.loop-x.pattern c.next_pattern-pattern.result c.row_above-above.result.now c.row-below.result.now
     c.next_pattern-pattern.ensures.next (omega (arith, c.loop-x-test.true, c.columns-x-end.ensures.columns)) c.loop-x.invariant.before c.row_above-above.ensures
     c.row-below.ensures.row in
     here.small
 
-pub see-requires-clause-facts : goal.see-requires-clause-facts
-see-requires-clause-facts c =
+pub see_ring-requires-clause-facts : goal.see_ring-requires-clause-facts
+see_ring-requires-clause-facts c =
     let here = pattern-flags c.args.grid.now c.args.r c.loop-x.x c.loop-x.pattern c.next_pattern-pattern.result c.row_above-above.result.now c.row-below.result.now
     c.next_pattern-pattern.ensures.next (omega (arith, c.loop-x-test.true, c.columns-x-end.ensures.columns)) c.loop-x.invariant.before c.row_above-above.ensures
     c.row-below.ensures.row in
-    c.at-facts.ensures ∙ ap (λ (k : Kind). facts_by k ((c.args.r + c.loop-x.x) % 2) c.next_pattern-pattern.result) c.kind.ensures.kind
-    ∙ pattern-facts c.args.grid.now (corner c.args.r c.loop-x.x) c.next_pattern-pattern.result here
+    pattern-facts c.args.grid.now (corner c.args.r c.loop-x.x) c.next_pattern-pattern.result here
 
 pub loop-x-preserved : goal.loop-x-preserved
 loop-x-preserved c =
@@ -41,7 +35,7 @@ loop-x-preserved c =
     c.row-below.ensures.row in
     record {
       before = pattern-before c.args.grid.now c.args.r c.loop-x.x c.next_pattern-pattern.result here;
-      seen = c.in_ok-see.ensures.seen;
+      seen = c.in_ok-see_ring.ensures.seen;
     }
 
 pub returns-clause-seen : goal.returns-clause-seen
