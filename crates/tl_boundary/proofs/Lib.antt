@@ -1,3 +1,3 @@
 mod Prefixes
-mod TableLemmas
+mod SideLemmas
 pub mod OneCircuit

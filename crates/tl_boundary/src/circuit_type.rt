@@ -1,7 +1,7 @@
 //! The circuit type.
 
 ghost use Rattle.std.specs.Prelude.{◌≡◌, ◌<◌, ◌≤◌, length, map, position, slice_get, option_map, pos, ◌-ℤ◌, ◌*ℤ◌, ◌≤ℤ◌, neg_ℤ, Some};
-ghost use Rattle.tl_definitions.specs.Lattice.{corner_eq, rise};
+ghost use Rattle.tl_definitions.specs.Lattice.{corner as corner_of, corner_eq, rise};
 ghost use Rattle.tl_definitions.specs.Limits.{most_corners};
 ghost use Rattle.tl_definitions.specs.Region.{Region};
 ghost use Rattle.tl_definitions.specs.Accepted.{IsPlaced, IsCircuit, circuit_corners};
@@ -11,35 +11,30 @@ ghost use Rattle.tl_closing.specs.Colours.{dark_count, light_count};
 ghost use Rattle.tl_grid.specs.Sides.{side_by};
 
 use std::marker::Model;
-use tl_definitions::NO_NUMBER;
 use tl_lattice::{Corner, Kind, is_dark};
 use tl_region::BoundaryStep;
 
 /// The boundary circuit of a region: the list of its boundary sides in order.
 ///
-/// Beside them it keeps the sums of the signs of the first 0, 1, 2, .. of them, and for each corner place of the region,
-/// row by row, the number of the side that leaves the corner.
+/// Beside them it keeps the sums of the signs of the first 0, 1, 2, .. of them.
 #[derive(Drop)]
 pub struct Circuit {
     pub(crate) kind: Kind,
     pub(crate) steps: Vec<BoundaryStep>,
     pub(crate) prefixes: Vec<i64>,
-    pub(crate) width: usize,
-    pub(crate) places: Vec<u32>,
 }
 
 impl Model for Circuit {
     ghost use Rattle.std.specs.Prelude.{List, map};
     ghost use Rattle.tl_definitions.specs.Lattice.{Side};
-    ghost use Rattle.tl_definitions.specs.Region.{Region};
     ghost use Rattle.tl_grid.specs.Sides.{side_by};
-    ghost use Rattle.tl_boundary.specs.Walk.{HasTables};
+    ghost use Rattle.tl_boundary.specs.Walk.{HasPrefixes};
 
     ghost Value = { List Side };
 
     ghost view = { λ s. map (side_by s.kind) s.steps.items };
 
-    ghost invariant = { λ s. (R : Region) × HasTables R (map (side_by s.kind) s.steps.items) s.prefixes.items s.width s.places.items };
+    ghost invariant = { λ s. HasPrefixes (map (side_by s.kind) s.steps.items) s.prefixes.items };
 }
 
 /// 1 where the cell of the side is dark, and -1 where it is light.
@@ -47,6 +42,16 @@ pub(crate) fn sign(kind: Kind, step: BoundaryStep) -> i8
     ensures { result ≡ sign_of (side_by kind step) }
 {
     if is_dark(step.side(kind).cell) { 1 } else { -1 }
+}
+
+// The corner that the step leaves.
+fn start(step: BoundaryStep) -> Corner
+    ensures { result ≡ corner_of step.r step.x }
+{
+    Corner {
+        r: u32::from(step.r),
+        x: u32::from(step.x),
+    }
 }
 
 impl Circuit {
@@ -69,23 +74,17 @@ impl Circuit {
         self.prefix(self.len())
     }
 
-    /// The place of the corner on the circuit; None where it isn't on it. Any pair may be asked for.
+    /// The place of the corner on the circuit; None where it isn't on it. Any pair may be asked for. Each side is looked
+    /// at in turn.
     pub fn place_of(&self, corner: Corner) -> Option<u32>
         ensures { result ≡ position (corner_eq corner) (circuit_corners self.now) }
     {
-        if corner.x as usize >= self.width {
-            return None;
+        for (k, step) in self.steps.iter().enumerate() {
+            if corner == start(*step) {
+                return Some(k as u32);
+            }
         }
-        let place = corner.r as usize * self.width + corner.x as usize;
-        if place >= self.places.len() {
-            return None;
-        }
-        let number = self.places[place];
-        if number == NO_NUMBER {
-            None
-        } else {
-            Some(number)
-        }
+        None
     }
 
     /// The corner at this place, below `len`.
@@ -93,11 +92,7 @@ impl Circuit {
         requires { k < length self.now }
         ensures { slice_get (circuit_corners self.now) k ≡ Some result }
     {
-        let step = self.steps[k as usize];
-        Corner {
-            r: u32::from(step.r),
-            x: u32::from(step.x),
-        }
+        start(self.steps[k as usize])
     }
 
     /// The sign of the side from this place, below `len`, to the next.

@@ -1,4 +1,4 @@
-//! The boundary circuit of a region: its sides in order, the sums of their signs, and the place of each corner.
+//! The boundary circuit of a region: its sides in order, and the sums of their signs.
 //!
 //! A boundary side is a side of exactly one cell of the region. The circuit goes along the boundary sides with the
 //! region on its left, and begins at the boundary corner that is first in raster order. The sign of a side is 1
@@ -14,7 +14,6 @@ mod circuit_type;
 use crate::circuit_type::sign;
 pub use circuit_type::Circuit;
 use std::alloc::{AllocError, Global};
-use tl_definitions::NO_NUMBER;
 use tl_region::Region;
 
 /// The boundary circuit of the region.
@@ -25,13 +24,10 @@ pub fn circuit(alloc: Global, region: &Region) -> Result<Circuit, AllocError>
 {
     let kind = region.kind();
     let steps = region.boundary();
-    let width = region.columns() as usize + 2;
-    let mut places = vec![in alloc; NO_NUMBER; (region.rows() as usize + 1) * width]?;
     let mut sum = 0;
     let mut prefixes = Vec::with_capacity(alloc, steps.len() + 1)?;
     prefixes.push(sum)?;
-    for (k, step) in steps.iter().enumerate() {
-        places[step.r as usize * width + step.x as usize] = k as u32;
+    for step in steps {
         sum += i64::from(sign(kind, *step));
         prefixes.push(sum)?;
     }
@@ -39,8 +35,6 @@ pub fn circuit(alloc: Global, region: &Region) -> Result<Circuit, AllocError>
         kind,
         steps: steps.to_vec(alloc)?,
         prefixes,
-        width,
-        places,
     })
 }
 

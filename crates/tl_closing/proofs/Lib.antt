@@ -29,6 +29,7 @@ mod Flips
 mod Flipped
 mod Colours
 mod Filling
+mod Limits
 mod OnCircuit
 mod PutNumbers
 mod CircuitResidues

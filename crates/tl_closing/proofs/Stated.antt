@@ -28,7 +28,7 @@ pub use Rattle.tl_closing.proofs.Falls.{lt-false, lt-true}
 -- Lawful heights along a step take one of two values; and two lawful heights differ by a multiple of the rise.
 pub use Rattle.tl_closing.proofs.AlongSteps.{one_or_fall, same-residue}
 -- A function on the corners of a region as a list of numbers, and that the numbers are told by the heights.
-pub use Rattle.tl_closing.proofs.Numbers.{corner-within, height-numbers_of, numbers_of, numbers_of-heights}
+pub use Rattle.tl_closing.proofs.Numbers.{corner-within, height-numbers_of, numbers_of, numbers_of-heights, same-numbers}
 -- Tilings of an accepted region and lawful heights correspond one to one.
 pub use Rattle.tl_closing.proofs.Heights.{Start, has-heights, has-tiling, heights-lawful, start-of}
 -- Round a corner: the cells of its ring, and its left neighbour. A corner of a region is an inner corner, or a boundary
@@ -44,6 +44,8 @@ pub use Rattle.tl_closing.proofs.Changed.{lowered-lawful, raised-lawful}
 pub use Rattle.tl_closing.proofs.InnerSteps.{inner-of_region, inner-step_in, inner-step_out}
 -- Lawful heights are no larger than the circuit is long and three times the column.
 pub use Rattle.tl_closing.proofs.Bounds.{Within, heights-small}
+-- In a region within the limits they are within theirs.
+pub use Rattle.tl_closing.proofs.Limits.{heights-within_limits}
 -- The list of all tiles of a region is ascending.
 pub use Rattle.tl_closing.proofs.TilesInOrder.{tiles-linked}
 -- Each cell of a region at an inner corner is covered by a tile of hi there, and by one of lo.
@@ -53,8 +55,8 @@ pub use Rattle.tl_closing.proofs.RingTiles.{dart-step-in, dart-step-out, hi-cove
 pub use Rattle.tl_closing.proofs.Exchange.{In-is_in, is_in-In}
 -- Raising the height at a corner where a tiling stands low is putting it high there, and lowering is putting it low.
 pub use Rattle.tl_closing.proofs.Flips.{lo-at}
--- And so the flipped tiling has these heights.
-pub use Rattle.tl_closing.proofs.Flipped.{lowered-flip, raised-flip}
+-- And so the tiling put high or low, and the flipped tiling, has these heights.
+pub use Rattle.tl_closing.proofs.Flipped.{lowered-flip, lowered-put_low, raised-flip, raised-put_high}
 -- The total by colours. The signs of all sides of the cells add up to it, as the two sides of an edge between two
 -- cells of the region have opposite signs.
 pub use Rattle.tl_closing.proofs.Colours.{signs-total, total-colours}

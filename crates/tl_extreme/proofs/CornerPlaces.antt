@@ -1,24 +1,22 @@
 -- The corners of a region are a graph, and its steps those of the region.
-use Rattle.std.proofs.Common.{◌≡◌, ◌⊎◌, inl, inr, not, Option, ℕ, ◌+◌, ◌*◌, ◌<◌, ◌≤◌, ◌^◌, Bool, true, false, List, map, refl, sym, ◌∙◌, ap, subst, arith}
-use Rattle.std.specs.Prelude.{◌==◌, is_some, position}
+use Rattle.std.proofs.Common.{◌≡◌, ℕ, ◌+◌, ◌*◌, ◌<◌, ◌≤◌, ◌^◌, Bool, true, false, map, refl, sym, ◌∙◌, ap, subst, arith}
+use Rattle.std.specs.Prelude.{◌==◌}
 use Rattle.std.specs.List.{list_any}
-use Rattle.std.proofs.lemmas.Bool.{cases_Bool, eqb-true, eq-eqb, false≢true}
+use Rattle.std.proofs.lemmas.Bool.{eqb-true, eq-eqb}
 use Rattle.std.proofs.lemmas.Nat.{mul-add-lt, div-add-mod', div-mul-add, mod-mul-add}
 use Rattle.std.proofs.Math.Nat.{mul_comm, mul-le-mul}
 use Rattle.tl_lists.specs.Lists.{present}
 use Rattle.tl_lists.proofs.Members.{In, In-map, In-map_parts, In-filter, In-filter_parts, any-In, In-any_of}
 use Rattle.tl_definitions.specs.declared.Corner.{Corner}
 use Rattle.tl_definitions.specs.declared.TheConstants.{COORDINATE_LIMIT, SIDE_LIMIT}
-use Rattle.tl_definitions.specs.Lattice.{corner_eq, is_corner, steps_in, steps_out, Side}
-use Rattle.tl_definitions.specs.Accepted.{IsPlaced, IsCircuit, circuit_corners}
-use Rattle.tl_definitions.specs.Region.{Region, corner_places, corner_rows, is_corner_of, is_inner, is_edge, is_step, steps}
-use Rattle.tl_lists.proofs.Positions.{position-some, position-missing}
+use Rattle.tl_definitions.specs.Lattice.{corner_eq, is_corner, steps_in, steps_out}
+use Rattle.tl_definitions.specs.Region.{Region, corner_places, corner_rows, is_corner_of, is_edge, is_step, steps}
 use Rattle.tl_definitions.specs.Heights.{height_count}
 use Rattle.tl_definitions.proofs.Corners.{corner-same}
 use Rattle.tl_definitions.proofs.Steps.{steps_in-steps_out}
 use Rattle.tl_definitions.proofs.Walks.{corner-In, In-corner}
 use Rattle.tl_grid.specs.Grid.{IsGrid}
-use Rattle.tl_closing.proofs.Stated.{In-vertices, corner-within, on_circuit-inner, step-ends}
+use Rattle.tl_closing.proofs.Stated.{In-vertices, corner-within, step-ends}
 use Rattle.tl_search.specs.Graphs.{has_step, IsGraph}
 use Rattle.tl_search.proofs.Reversals.{IsGraph-reversed}
 use Rattle.tl_extreme.specs.CornerGraph.{place, corner_of, steps_to, graph_of, run_of}
@@ -51,8 +49,8 @@ module _ (R : Region) (is_grid : IsGrid R) where
   pub place-small : (v : Corner) → is_corner_of R v ≡ true → place R v < 2 ^ 29
   place-small v e = omega (arith, place-within v e, few-places)
 
-  pub place-small_by : (v : Corner) (n : ℕ) → n ≡ R.columns → is_corner_of R v ≡ true → v.r * (n + 2) + v.x < 2 ^ 29
-  place-small_by v n is e = subst (λ (k : ℕ). v.r * (k + 2) + v.x < 2 ^ 29) (sym is) (place-small v e)
+  pub place-small_by : (v : Corner) (width : ℕ) → width ≡ R.columns + 2 → is_corner_of R v ≡ true → v.r * width + v.x < 2 ^ 29
+  place-small_by v width wide e = subst (λ (n : ℕ). v.r * n + v.x < 2 ^ 29) (sym wide) (place-small v e)
 
   -- a corner of the region is one of the lattice, and its coordinates are small
   pub corner-lattice : (v : Corner) → is_corner_of R v ≡ true → is_corner R.kind v ≡ true
@@ -140,26 +138,3 @@ module _ (R : Region) (is_grid : IsGrid R) where
   pub step-runs : (negated : Bool) (u v : Corner) → StepBy negated R u v → has_step (run_of negated R).steps (place R u) (place R v) ≡ true
   step-runs false u v e = step-has R is_grid u v e
   step-runs true u v e = step-has_back R is_grid v u e
-
--- ---- inner corners
-
--- a corner of the region that has no place on the circuit is an inner one
-pub off-inner : (R : Region) (walk : List Side) (v : Corner) (o : Option ℕ) (none : Bool) → IsPlaced R → IsCircuit R walk → is_corner_of R v ≡ true
-    → o ≡ position (corner_eq v) (circuit_corners walk) → is_some o ≡ not none → none ≡ is_inner R v
-off-inner R walk v o none placed circuit corner at is = go (cases_Bool (list_any (corner_eq v) (circuit_corners walk))) none (is_inner R v) is
-    (on_circuit-inner R placed walk circuit v corner)
-  where
-    not-turned : (t : Bool) → not t ≡ true → t ≡ false
-    not-turned true e = absurd (false≢true e)
-    not-turned false e = refl
-
-    not-turned_back : (t : Bool) → not t ≡ false → t ≡ true
-    not-turned_back true e = refl
-    not-turned_back false e = absurd (false≢true (sym e))
-
-    go : (list_any (corner_eq v) (circuit_corners walk) ≡ true) ⊎ (list_any (corner_eq v) (circuit_corners walk) ≡ false) → (b t : Bool) → is_some o ≡ not b
-        → list_any (corner_eq v) (circuit_corners walk) ≡ not t → b ≡ t
-    go (inl e) false t some there = sym (not-turned t (sym there ∙ e))
-    go (inl e) true t some there = absurd (false≢true (sym some ∙ ap is_some (at ∙ position-some (corner_eq v) (circuit_corners walk) e)))
-    go (inr e) true t some there = sym (not-turned_back t (sym there ∙ e))
-    go (inr e) false t some there = absurd (false≢true (sym (ap is_some (at ∙ position-missing (corner_eq v) (circuit_corners walk) e)) ∙ some))

@@ -105,19 +105,19 @@ triangle-wide R v kind inner = go (cases_Bool (nat_lt v.x 2)) (and_parts _ _ (su
 -- ---- as they are computed
 
 -- what bounds the arithmetic with the place of an inner corner
-pub record HasRoom (p n : ℕ) : Type 0 where
-  pub below : (p + (n + 2)) + 2 < 2 ^ 32
-  pub above : (n + 2) + 1 ≤ p
+pub record HasRoom (p width : ℕ) : Type 0 where
+  pub below : (p + width) + 2 < 2 ^ 32
+  pub above : width + 1 ≤ p
 
-module _ (R : Region) (is_grid : IsGrid R) (v : Corner) (inner : is_inner R v ≡ true) (n p : ℕ) (columns : n ≡ R.columns) (place_is : p ≡ place R v) where
-  pub has-room : HasRoom p n
+module _ (R : Region) (is_grid : IsGrid R) (v : Corner) (inner : is_inner R v ≡ true) (width p : ℕ) (wide : width ≡ R.columns + 2) (place_is : p ≡ place R v) where
+  pub has-room : HasRoom p width
   has-room =
       let a = inner-among R v is_grid.placed inner in
       let small = place-small R is_grid v (inner-of_region R v inner) in
       let least = room (R.columns + 2) v.r v.x a.below_first_row in
       record {
-        below = omega (arith, columns, place_is, small, is_grid.columns_within);
-        above = omega (arith, columns, place_is, least, a.right_of_first_column);
+        below = omega (arith, wide, place_is, small, is_grid.columns_within);
+        above = omega (arith, wide, place_is, least, a.right_of_first_column);
       }
 
   row : 1 ≤ v.r
@@ -135,24 +135,24 @@ module _ (R : Region) (is_grid : IsGrid R) (v : Corner) (inner : is_inner R v �
   finish-in : (k : Kind) → R.kind ≡ k → (xs : List ℕ) → map (place R) (present (steps_in k v)) ≡ xs → xs ≡ map (place R) (steps_to R v)
   finish-in k kind xs e = sym e ∙ ap (λ (q : Kind). map (place R) (present (steps_in q v))) (sym kind) ∙ ap (map (place R)) (sym (inner-steps_to R v inner))
 
-  pub out-even : R.kind ≡ Square → (v.r + v.x) % 2 ≡ 0 → (p - (n + 2)) ∷ (p + (n + 2)) ∷ [] ≡ map (place R) (steps R v)
-  out-even kind even = (λ i. (place_is i - (columns i + 2)) ∷ (place_is i + (columns i + 2)) ∷ []) ∙ finish-out Square kind _ (square-out_even w v row column even)
+  pub out-even : R.kind ≡ Square → (v.r + v.x) % 2 ≡ 0 → (p - width) ∷ (p + width) ∷ [] ≡ map (place R) (steps R v)
+  out-even kind even = (λ i. (place_is i - wide i) ∷ (place_is i + wide i) ∷ []) ∙ finish-out Square kind _ (square-out_even w v row column even)
 
   pub out-odd : R.kind ≡ Square → ((v.r + v.x) % 2 ≡ 0 → ⊥) → (p - 1) ∷ (p + 1) ∷ [] ≡ map (place R) (steps R v)
   out-odd kind odd = (λ i. (place_is i - 1) ∷ (place_is i + 1) ∷ []) ∙ finish-out Square kind _ (square-out_odd w v row column odd)
 
-  pub out-triangle : R.kind ≡ Triangle → (p + 2) ∷ ((p - (n + 2)) - 1) ∷ ((p + (n + 2)) - 1) ∷ [] ≡ map (place R) (steps R v)
+  pub out-triangle : R.kind ≡ Triangle → (p + 2) ∷ ((p - width) - 1) ∷ ((p + width) - 1) ∷ [] ≡ map (place R) (steps R v)
   out-triangle kind =
-      (λ i. (place_is i + 2) ∷ ((place_is i - (columns i + 2)) - 1) ∷ ((place_is i + (columns i + 2)) - 1) ∷ [])
+      (λ i. (place_is i + 2) ∷ ((place_is i - wide i) - 1) ∷ ((place_is i + wide i) - 1) ∷ [])
       ∙ finish-out Triangle kind _ (triangle-out w v row column)
 
   pub in-even : R.kind ≡ Square → (v.r + v.x) % 2 ≡ 0 → (p + 1) ∷ (p - 1) ∷ [] ≡ map (place R) (steps_to R v)
   in-even kind even = (λ i. (place_is i + 1) ∷ (place_is i - 1) ∷ []) ∙ finish-in Square kind _ (square-in_even w v row column even)
 
-  pub in-odd : R.kind ≡ Square → ((v.r + v.x) % 2 ≡ 0 → ⊥) → (p - (n + 2)) ∷ (p + (n + 2)) ∷ [] ≡ map (place R) (steps_to R v)
-  in-odd kind odd = (λ i. (place_is i - (columns i + 2)) ∷ (place_is i + (columns i + 2)) ∷ []) ∙ finish-in Square kind _ (square-in_odd w v row column odd)
+  pub in-odd : R.kind ≡ Square → ((v.r + v.x) % 2 ≡ 0 → ⊥) → (p - width) ∷ (p + width) ∷ [] ≡ map (place R) (steps_to R v)
+  in-odd kind odd = (λ i. (place_is i - wide i) ∷ (place_is i + wide i) ∷ []) ∙ finish-in Square kind _ (square-in_odd w v row column odd)
 
-  pub in-triangle : R.kind ≡ Triangle → ((p - (n + 2)) + 1) ∷ ((p + (n + 2)) + 1) ∷ (p - 2) ∷ [] ≡ map (place R) (steps_to R v)
+  pub in-triangle : R.kind ≡ Triangle → ((p - width) + 1) ∷ ((p + width) + 1) ∷ (p - 2) ∷ [] ≡ map (place R) (steps_to R v)
   in-triangle kind =
-      (λ i. ((place_is i - (columns i + 2)) + 1) ∷ ((place_is i + (columns i + 2)) + 1) ∷ (place_is i - 2) ∷ [])
+      (λ i. ((place_is i - wide i) + 1) ∷ ((place_is i + wide i) + 1) ∷ (place_is i - 2) ∷ [])
       ∙ finish-in Triangle kind _ (triangle-in w v row column (triangle-wide R v kind inner))

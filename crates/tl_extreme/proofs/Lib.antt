@@ -4,6 +4,8 @@ mod CornerPlaces
 mod DistanceLemmas
 mod EndPlaces
 mod InnerPlaces
+mod KeptKinds
+mod KeptSteps
 mod Leading
 mod MappedPaths
 mod SpreadHeights

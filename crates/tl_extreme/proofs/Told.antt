@@ -21,21 +21,21 @@ use Rattle.tl_extreme.proofs.CornerPlaces.{corner_of-place, run-step}
 use Rattle.tl_extreme.proofs.Leading.{climbs-along}
 use Rattle.tl_extreme.proofs.SpreadHeights.{AreFromSearch, turned-climbs}
 
--- where the graph and the sources are known by other names
 pub record IsSearched (R : Region) (walk : List Side) (negated : Bool) (outcome : Outcome) : Type 0 where
   pub sources : List Source
   pub from : AreFromCircuit R walk negated sources
   pub are : AreSources (run_of negated R) sources
   pub spread : IsSpread (run_of negated R) sources outcome
 
-pub searched : (R S : Region) (walk : List Side) (negated : Bool) (made given : List Source) (outcome : Outcome) → S ≡ R → given ≡ made
-    → AreFromCircuit S walk negated made → AreSources (run_of negated S) made → IsSpread (run_of negated S) given outcome → IsSearched R walk negated outcome
-searched R S walk negated made given outcome region sources from are spread =
+-- where the sources are known by another name
+pub searched : (R : Region) (walk : List Side) (negated : Bool) (made given : List Source) (outcome : Outcome) → given ≡ made
+    → AreFromCircuit R walk negated made → AreSources (run_of negated R) made → IsSpread (run_of negated R) given outcome → IsSearched R walk negated outcome
+searched R walk negated made given outcome same from are spread =
     record {
       sources = made;
-      from = subst (λ (Q : Region). AreFromCircuit Q walk negated made) region from;
-      are = subst (λ (Q : Region). AreSources (run_of negated Q) made) region are;
-      spread = subst (λ (Q : Region). IsSpread (run_of negated Q) made outcome) region (subst (λ (xs : List Source). IsSpread (run_of negated S) xs outcome) sources spread);
+      from = from;
+      are = are;
+      spread = subst (λ (xs : List Source). IsSpread (run_of negated R) xs outcome) same spread;
     }
 
 module _ (R : Region) (walk : List Side) (negated : Bool) (outcome : Outcome) (s : IsSearched R walk negated outcome) where

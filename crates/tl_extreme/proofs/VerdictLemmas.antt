@@ -11,27 +11,31 @@ use Rattle.tl_definitions.specs.Heights.{AreHeights}
 use Rattle.tl_closing.proofs.Stated.{has-tiling}
 use Rattle.tl_lawful.specs.Order.{AreGreatest, AreLeast}
 use Rattle.tl_lawful.proofs.Stated.{bottom-least, one-bottom, one-top, top-greatest}
+use Rattle.tl_height.specs.HeightFunction.{HeightFunction}
 use Rattle.tl_obstruction.proofs.AlongPaths.{no-tiling}
 use Rattle.tl_extreme.specs.Undercuts.{IsGapForm}
 use Rattle.tl_extreme.specs.Verdicts.{AreTopHeights, AreBottomHeights, IsReason}
 
 -- ---- the two tilings
 
+abbrev pub heights-by : List ℤ → Region → HeightFunction
+heights-by numbers R = record { region = R; numbers = numbers }
+
 module _ (R : Region) (accepted : Accepted R) where
-  pub top-heights : (numbers : List ℤ) → AreGreatest R numbers → AreTopHeights R (record { region = R; numbers = numbers })
+  pub top-heights : (numbers : List ℤ) → AreGreatest R numbers → AreTopHeights R (heights-by numbers R)
   top-heights numbers greatest = go (has-tiling R numbers accepted greatest.0)
     where
       go : (A : List Tile) × IsTrue (is_tiling R A) × AreHeights R A numbers × ((B : List Tile) → IsTrue (is_tiling R B) → AreHeights R B numbers → B ≡ A)
-          → AreTopHeights R (record { region = R; numbers = numbers })
+          → AreTopHeights R (heights-by numbers R)
       go (A, tiling, heights, only) =
           let top = (top-greatest R accepted A numbers tiling heights).1 greatest in
           record { region = refl; greatest = greatest; tiles = A; top = top; heights = heights; only = λ B other. one-top R accepted B A other top }
 
-  pub bottom-heights : (numbers : List ℤ) → AreLeast R numbers → AreBottomHeights R (record { region = R; numbers = numbers })
+  pub bottom-heights : (numbers : List ℤ) → AreLeast R numbers → AreBottomHeights R (heights-by numbers R)
   bottom-heights numbers least = go (has-tiling R numbers accepted least.0)
     where
       go : (A : List Tile) × IsTrue (is_tiling R A) × AreHeights R A numbers × ((B : List Tile) → IsTrue (is_tiling R B) → AreHeights R B numbers → B ≡ A)
-          → AreBottomHeights R (record { region = R; numbers = numbers })
+          → AreBottomHeights R (heights-by numbers R)
       go (A, tiling, heights, only) =
           let bottom = (bottom-least R accepted A numbers tiling heights).1 least in
           record { region = refl; least = least; tiles = A; bottom = bottom; heights = heights; only = λ B other. one-bottom R accepted B A other bottom }

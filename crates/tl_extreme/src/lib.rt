@@ -37,7 +37,7 @@ pub fn distances<'a>(
     ensures { IfOk result (λ d. d ≡ record { region = region.now; from = from }) }
 {
     let circuit = circuit(alloc, region)?;
-    let graph = CornerGraph::of(region, &circuit);
+    let graph = CornerGraph::of(alloc, region, &circuit)?;
     let source = Source {
         place: graph.place(from),
         number: 0,

@@ -1,16 +1,16 @@
 //! The top and the bottom tiling, or a reason why there is none.
 
-ghost use Rattle.std.specs.Prelude.{◌≡◌, ℕ, List, map, ℤ, ◌-ℤ◌, IfOk, IsTrue};
+ghost use Rattle.std.specs.Prelude.{◌≡◌, ℕ, List, map, ℤ, pos, ◌-ℤ◌, IfOk, MatchOption, IsTrue};
 ghost use Rattle.tl_lists.specs.Lists.{distinct};
 ghost use Rattle.tl_definitions.specs.Lattice.{corner_eq};
-ghost use Rattle.tl_definitions.specs.Accepted.{IsCircuit, circuit_corners};
+ghost use Rattle.tl_definitions.specs.Accepted.{Accepted, IsCircuit, circuit_corners};
 ghost use Rattle.tl_definitions.specs.Heights.{AreLawful};
-ghost use Rattle.tl_definitions.specs.Obstruction.{IsObstruction, prefix as prefix_of};
+ghost use Rattle.tl_definitions.specs.Obstruction.{IsObstruction, prefix as prefix_of, total as total_of};
 ghost use Rattle.tl_obstruction.specs.Told.{told_by};
 ghost use Rattle.tl_grid.specs.Grid.{IsGrid};
 ghost use Rattle.tl_extreme.specs.CornerGraph.{corner_of};
 ghost use Rattle.tl_extreme.specs.Undercuts.{AreEndsAt, HasEndsOn, IsGapForm, IsUndercutOf};
-ghost use Rattle.tl_extreme.specs.Verdicts.{AreBottomHeights, IsDecision, IsVerdict};
+ghost use Rattle.tl_extreme.specs.Verdicts.{AreBottomHeights, IsDecision, IsReason, IsVerdict};
 
 use crate::corner_graph::CornerGraph;
 use crate::sources::{circuit_sources, to_heights};
@@ -53,24 +53,11 @@ pub fn decide<'a>(
     requires { IsCircuit region.now circuit.now }
     ensures { IfOk result (IsDecision region.now) }
 {
-    let graph = CornerGraph::of(region, circuit);
-    let total = circuit.total();
-    if total != 0 {
-        return Ok(Decision::Blocked(Obstruction::Open { total }));
+    if let Some(told) = imbalance(region, circuit) {
+        return Ok(Decision::Blocked(told));
     }
-    let sources = circuit_sources(alloc, &graph, circuit, false)?;
-    match spread(alloc, &graph, sources.as_slice())? {
-        Outcome::Filled(numbers) => {
-            let heights = to_heights(numbers, false);
-            Ok(Decision::Tiled(Heights::of_numbers(region, heights)))
-        }
-        Outcome::Undercut(path) => Ok(Decision::Blocked(gap(
-            alloc,
-            &graph,
-            circuit,
-            path.as_slice(),
-        )?)),
-    }
+    let graph = CornerGraph::of(alloc, region, circuit)?;
+    top(alloc, &graph, circuit)
 }
 
 /// The bottom and the top tiling of a region, or an obstruction, which is `Open` exactly where the total isn't 0. The
@@ -86,29 +73,79 @@ pub fn extremes<'a>(
     requires { IsCircuit region.now circuit.now }
     ensures { IfOk result (IsVerdict region.now) }
 {
-    match decide(alloc, region, circuit)? {
+    if let Some(told) = imbalance(region, circuit) {
+        return Ok(Verdict::Blocked(told));
+    }
+    let graph = CornerGraph::of(alloc, region, circuit)?;
+    match top(alloc, &graph, circuit)? {
         Decision::Tiled(high) => Ok(Verdict::Pair {
-            low: bottom(alloc, region, circuit)?,
+            low: bottom(alloc, &graph, circuit)?,
             high,
         }),
         Decision::Blocked(told) => Ok(Verdict::Blocked(told)),
     }
 }
 
+// The total as a reason, where it isn't 0.
+fn imbalance(region: &Region, circuit: &Circuit) -> Option<Obstruction>
+    requires { IsCircuit region.now circuit.now }
+    ensures { MatchOption result (total_of region.now ≡ pos 0) (λ told. IsReason region.now (told_by told)) }
+{
+    // the region's calls tell that it is accepted
+    prove!(region.rows() <= u32::MAX);
+    let total = circuit.total();
+    if total != 0 {
+        Some(Obstruction::Open { total })
+    } else {
+        None
+    }
+}
+
+// The top tiling of a region whose total is 0, or a gap.
+fn top<'a>(
+    alloc: Global,
+    graph: &CornerGraph<'a>,
+    circuit: &Circuit,
+) -> Result<Decision<'a>, AllocError>
+    requires is_grid { IsGrid graph.now }
+    requires accepted { Accepted graph.now }
+    requires circuit { IsCircuit graph.now circuit.now }
+    requires balanced { total_of graph.now ≡ pos 0 }
+    ensures { IfOk result (IsDecision graph.now) }
+{
+    let sources = circuit_sources(alloc, graph, circuit, false)?;
+    match spread(alloc, graph, sources.as_slice())? {
+        Outcome::Filled(numbers) => {
+            let heights = to_heights(numbers, false);
+            Ok(Decision::Tiled(Heights::of_numbers(graph.region(), heights)))
+        }
+        Outcome::Undercut(path) => Ok(Decision::Blocked(gap(
+            alloc,
+            graph,
+            circuit,
+            path.as_slice(),
+        )?)),
+    }
+}
+
 // The heights of the bottom tiling of a region that has one.
 fn bottom<'a>(
     alloc: Global,
-    region: &'a Region,
+    graph: &CornerGraph<'a>,
     circuit: &Circuit,
 ) -> Result<Heights<'a>, AllocError>
-    requires circuit { IsCircuit region.now circuit.now }
-    requires tiled { (numbers : List ℤ) × AreLawful region.now numbers }
-    ensures { IfOk result (AreBottomHeights region.now) }
+    requires is_grid { IsGrid graph.now }
+    requires accepted { Accepted graph.now }
+    requires circuit { IsCircuit graph.now circuit.now }
+    requires tiled { (numbers : List ℤ) × AreLawful graph.now numbers }
+    ensures { IfOk result (AreBottomHeights graph.now) }
 {
-    let graph = CornerGraph::of(region, circuit);
-    let sources = circuit_sources(alloc, &graph, circuit, true)?;
-    match spread(alloc, &Reversed(&graph), sources.as_slice())? {
-        Outcome::Filled(numbers) => Ok(Heights::of_numbers(region, to_heights(numbers, true))),
+    let sources = circuit_sources(alloc, graph, circuit, true)?;
+    match spread(alloc, &Reversed(graph), sources.as_slice())? {
+        Outcome::Filled(numbers) => {
+            let heights = to_heights(numbers, true);
+            Ok(Heights::of_numbers(graph.region(), heights))
+        }
         // the prefixes of a region with a tiling fit
         Outcome::Undercut(_) => unreachable!(),
     }

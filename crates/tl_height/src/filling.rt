@@ -1,12 +1,13 @@
-//! The heights of a tiling, corner by corner in raster order.
+//! The heights of a tiling: those on the circuit, and then those of the inner corners in raster order.
 
-ghost use Rattle.std.specs.Prelude.{◌≡◌, ◌+◌, ◌-◌, ◌*◌, ◌<◌, ◌≤◌, List, ℤ, length, take, pos, negsuc, ◌+ℤ◌, ◌≤ℤ◌, IfOk, IsTrue, IsFalse};
+ghost use Rattle.std.specs.Prelude.{◌≡◌, ◌+◌, ◌-◌, ◌<◌, List, ℕ, ℤ, Some, length, slice_get, pos, negsuc, ◌+ℤ◌, ◌≤ℤ◌, IfOk, IsTrue, IsFalse};
 ghost use Rattle.std.specs.List.{list_any};
-ghost use Rattle.tl_definitions.specs.Lattice.{corner as corner_of, corner_eq, Side, cell_width as width_of};
+ghost use Rattle.tl_definitions.specs.declared.Corner.{Corner};
+ghost use Rattle.tl_definitions.specs.Lattice.{corner as corner_of, corner_eq, cell_width as width_of};
 ghost use Rattle.tl_definitions.specs.Region.{is_inner};
-ghost use Rattle.tl_definitions.specs.Accepted.{Accepted, IsPlaced, IsCircuit, circuit_corners};
-ghost use Rattle.tl_definitions.specs.Heights.{height as height_of, AreHeights, AreLawful};
-ghost use Rattle.tl_grid.specs.Grid.{IsGrid};
+ghost use Rattle.tl_definitions.specs.Accepted.{Accepted, IsCircuit, circuit_corners};
+ghost use Rattle.tl_definitions.specs.Heights.{height as height_of, height_count, AreHeights, AreLawful};
+ghost use Rattle.tl_definitions.specs.Obstruction.{prefix};
 
 use crate::heights::Heights;
 use std::alloc::{AllocError, Global};
@@ -44,57 +45,43 @@ fn fill(alloc: Global, circuit: &Circuit, tiling: &Tiling) -> Result<Vec<i32>, A
     ensures heights { IfOk result (λ numbers. AreHeights tiling.now.region tiling.now.tiles numbers.items) }
     ensures lawful { IfOk result (λ numbers. AreLawful tiling.now.region numbers.items) }
 {
-    let rows = tiling.region().rows() + 1;
-    let columns = tiling.region().columns() + 2;
-    let mut numbers = Vec::with_capacity(alloc, rows as usize * columns as usize)?;
-    for r in 0..rows {
-        for x in 0..columns {
-            let height = height_at(circuit, tiling, Corner { r, x }, numbers.as_slice());
-            numbers.push(height)?;
-        }
+    let region = tiling.region();
+    let width = region.columns() as usize + 2;
+    let back = cell_width(region.kind()) as usize;
+    let mut numbers = boundary_numbers(alloc, region, circuit)?;
+    // the left neighbour is on the boundary, or an inner corner of a lower number
+    for i in 0..region.inner_count() {
+        let corner = region.inner(i);
+        let place = corner.r as usize * width + corner.x as usize;
+        numbers[place] = numbers[place - back] + rise_from_left(tiling, corner);
     }
     Ok(numbers)
 }
 
-// The height of a corner place, from those of all places before it: 0 where the region has no corner there.
-fn height_at(circuit: &Circuit, tiling: &Tiling, corner: Corner, before: &[i32]) -> i32
-    requires is_grid { IsGrid tiling.now.region }
-    requires accepted { Accepted tiling.now.region }
-    requires circuit { IsCircuit tiling.now.region circuit.now }
-    requires row { corner.r < tiling.now.region.rows + 1 }
-    requires column { corner.x < tiling.now.region.columns + 2 }
-    requires before { (numbers : List ℤ) → AreHeights tiling.now.region tiling.now.tiles numbers
-        → before.now ≡ take (corner.r * (tiling.now.region.columns + 2) + corner.x) numbers }
-    ensures { (numbers : List ℤ) → AreHeights tiling.now.region tiling.now.tiles numbers
-        → result ≡ height_of tiling.now.region numbers corner }
+// The circuit's prefixes at the places of its corners, and 0 at all other places.
+fn boundary_numbers(
+    alloc: Global,
+    region: &Region,
+    circuit: &Circuit,
+) -> Result<Vec<i32>, AllocError>
+    requires { IsCircuit region.now circuit.now }
+    ensures count { IfOk result (λ numbers. length numbers.items ≡ height_count region.now) }
+    ensures boundary { IfOk result (λ numbers. (k : ℕ) (v : Corner)
+        → slice_get (circuit_corners circuit.now) k ≡ Some v
+        → height_of region.now numbers.items v ≡ prefix circuit.now k) }
+    ensures elsewhere { IfOk result (λ numbers. (v : Corner) → v.x < region.now.columns + 2
+        → IsFalse (list_any (corner_eq v) (circuit_corners circuit.now))
+        → height_of region.now numbers.items v ≡ pos 0) }
+    ensures accepted { Accepted region.now }
 {
-    let region = tiling.region();
-    if let Some(k) = circuit.place_of(corner) {
-        return circuit.prefix(k) as i32;
+    let width = region.columns() as usize + 2;
+    let mut numbers = vec![in alloc; 0; (region.rows() as usize + 1) * width]?;
+    for k in 0..circuit.len() {
+        let corner = circuit.corner(k);
+        let place = corner.r as usize * width + corner.x as usize;
+        numbers[place] = circuit.prefix(k) as i32;
     }
-    if is_inner_off(region, corner) {
-        let width = cell_width(region.kind()) as usize;
-        before[before.len() - width] + rise_from_left(tiling, corner)
-    } else {
-        0
-    }
-}
-
-// Whether a pair that isn't on the circuit is an inner corner. Where it is a corner, its whole ring is in the region or
-// no cell of it, and one cell tells.
-fn is_inner_off(region: &Region, corner: Corner) -> bool
-    requires { IsPlaced region.now }
-    ensures { (walk : List Side) → IsCircuit region.now walk
-        → IsFalse (list_any (corner_eq corner) (circuit_corners walk)) → result ≡ is_inner region.now corner }
-{
-    let cell = Cell {
-        r: corner.r,
-        c: corner.x,
-    };
-    match region.kind() {
-        Kind::Square => region.has(cell),
-        Kind::Triangle => corner.r % 2 != corner.x % 2 && region.has(cell),
-    }
+    Ok(numbers)
 }
 
 // The height of an inner corner less that of its left neighbour. The cells above and below the edge between them are

@@ -1,24 +1,26 @@
 //! The type of height functions.
 
-ghost use Rattle.std.specs.Prelude.{neg_ℤ, ◌≡◌, ◌+◌, ◌*◌, ◌<◌, ◌≤◌, List, ◌-◌, ◌^◌, ◌≤ℤ◌, pos, negsuc, length, slice_get, IfOk, IsTrue, Some};
-ghost use Rattle.std.specs.List.{list_all};
+ghost use Rattle.std.specs.Prelude.{neg_ℤ, ◌≡◌, ◌+◌, ◌*◌, ◌<◌, ◌≤◌, List, ◌-◌, ◌^◌, ◌≤ℤ◌, ℤ, ◌+ℤ◌, pos, negsuc, length, slice_get, find, IfOk, IfSome, IsTrue, MatchOption, Some};
+ghost use Rattle.std.specs.Ordering.{int_eq};
 ghost use Rattle.tl_definitions.specs.declared.Corner.{Corner};
 ghost use Rattle.tl_definitions.specs.declared.Tile.{Tile};
-ghost use Rattle.tl_definitions.specs.Lattice.{steps_out as steps_from, steps_in as steps_to};
-ghost use Rattle.tl_definitions.specs.Region.{is_corner_of, is_inner, inner_corners};
+ghost use Rattle.tl_definitions.specs.Lattice.{rise};
+ghost use Rattle.tl_definitions.specs.Region.{is_corner_of, is_inner, is_step, inner_corners};
+ghost use Rattle.tl_definitions.specs.Accepted.{Accepted};
 ghost use Rattle.tl_lists.specs.Lists.{present, put_at};
 ghost use Rattle.tl_definitions.specs.Tiling.{is_tiling};
 ghost use Rattle.tl_definitions.specs.Heights.{height, height_row, AreHeights, AreLawful};
-ghost use Rattle.tl_height.specs.HeightFunction.{falls_between};
+ghost use Rattle.tl_closing.specs.Changed.{IsChangedAt};
+ghost use Rattle.tl_closing.specs.Standing.{falls_from, falls_to};
 ghost use Rattle.tl_height.specs.Letters.{IsDrawnFrom, row_text};
-ghost use Rattle.tl_height.specs.Standing.{AreCornersOf, all_fall, standing};
+ghost use Rattle.tl_height.specs.Standing.{AreCornersOf, is_some_with, standing};
 ghost use Rattle.tl_definitions.specs.Limits.{most_height};
 
-use crate::letters::{falls_between, write_squares, write_triangles};
+use crate::letters::{write_squares, write_triangles};
 use crate::standing::Standing;
 use std::alloc::{AllocError, Global};
 use std::marker::Model;
-use tl_lattice::{Corner, Kind, steps_in, steps_out};
+use tl_lattice::{Corner, Kind, rise, steps_in, steps_out};
 use tl_region::Region;
 
 /// Lawful heights on the corners of a region: those of exactly one tiling.
@@ -63,6 +65,7 @@ impl<'a> Heights<'a> {
     /// The region.
     pub fn region(&self) -> &'a Region
         ensures region { result.now ≡ self.now.region }
+        ensures accepted { Accepted self.now.region }
         ensures lawful { AreLawful self.now.region self.now.numbers }
     {
         self.region
@@ -128,50 +131,105 @@ impl<'a> Heights<'a> {
             → slice_get (inner_corners self.now.region) i ≡ Some v → result ≡ standing self.now.region A v }
     {
         let corner = self.region.inner(i);
-        if self.falls_from(corner) {
+        if self.rising_from(corner).is_none() {
             Standing::High
-        } else if self.falls_to(corner) {
+        } else if self.rising_to(corner).is_none() {
             Standing::Low
         } else {
             Standing::No
         }
     }
 
-    // Whether every step from an inner corner falls.
-    fn falls_from(&self, corner: Corner) -> bool
+    /// The first corner to which a step from this inner corner rises. None where all steps from it fall: it can be
+    /// lowered.
+    pub fn rising_from(&self, corner: Corner) -> Option<Corner>
         requires { IsTrue (is_inner self.now.region corner) }
-        ensures { result ≡ all_fall self.now.region self.now.numbers corner
-            (present (steps_from self.now.region.kind corner)) }
+        ensures { MatchOption result (IsTrue (falls_from self.now.region self.now.numbers corner))
+            (λ w. IsTrue (is_step self.now.region corner w)
+            × (height self.now.region self.now.numbers w ≡ height self.now.region self.now.numbers corner +ℤ pos 1)) }
     {
         let steps = steps_out(self.region.kind(), corner);
-        self.all_fall(self.at(corner), &steps.corners)
+        self.first_at(self.at(corner) + 1, steps.corners)
     }
 
-    // Whether every step to an inner corner falls.
-    fn falls_to(&self, corner: Corner) -> bool
+    /// The first corner from which a step to this inner corner rises. None where all steps to it fall: it can be
+    /// raised.
+    pub fn rising_to(&self, corner: Corner) -> Option<Corner>
         requires { IsTrue (is_inner self.now.region corner) }
-        ensures { result ≡ all_fall self.now.region self.now.numbers corner
-            (present (steps_to self.now.region.kind corner)) }
+        ensures { MatchOption result (IsTrue (falls_to self.now.region self.now.numbers corner))
+            (λ u. IsTrue (is_step self.now.region u corner)
+            × (height self.now.region self.now.numbers corner ≡ height self.now.region self.now.numbers u +ℤ pos 1)) }
     {
         let steps = steps_in(self.region.kind(), corner);
-        self.all_fall(self.at(corner), &steps.corners)
+        self.first_at(self.at(corner) - 1, steps.corners)
     }
 
-    // Whether every step between a corner of this height and one of these corners falls.
-    fn all_fall(&self, here: i32, corners: &[Option<Corner>]) -> bool
-        requires { AreCornersOf self.now.region corners.now }
-        ensures { result ≡ list_all (λ v. falls_between here (height self.now.region self.now.numbers v))
-            (present corners.now) }
+    // The first of these corners that has this height.
+    fn first_at(&self, wanted: i32, corners: [Option<Corner>; 3]) -> Option<Corner>
+        requires { AreCornersOf self.now.region corners }
+        ensures { result ≡ find (λ v. int_eq (height self.now.region self.now.numbers v) wanted) (present corners) }
     {
-        for corner in corners {
-            let Some(corner) = *corner else {
-                continue;
-            };
-            if !falls_between(here, self.at(corner)) {
-                return false;
-            }
+        let [first, second, third] = corners;
+        if self.is_at(wanted, first) {
+            return first;
         }
-        true
+        if self.is_at(wanted, second) {
+            return second;
+        }
+        if self.is_at(wanted, third) {
+            return third;
+        }
+        None
+    }
+
+    // Whether the corner is there and has this height.
+    fn is_at(&self, wanted: i32, corner: Option<Corner>) -> bool
+        requires { IfSome corner (λ v. IsTrue (is_corner_of self.now.region v)) }
+        ensures { result ≡ is_some_with (λ v. int_eq (height self.now.region self.now.numbers v) wanted) corner }
+    {
+        match corner {
+            Some(corner) => self.at(corner) == wanted,
+            None => false,
+        }
+    }
+
+    /// Raises an inner corner to which all steps fall by the rise of a flip.
+    pub fn raise(&mut self, corner: Corner)
+        requires inner { IsTrue (is_inner self.old.region corner) }
+        requires low { IsTrue (falls_to self.old.region self.old.numbers corner) }
+        ensures region { self.new.region ≡ self.old.region }
+        ensures raised { IsChangedAt self.old.region self.old.numbers self.new.numbers corner
+            (pos (rise self.old.region.kind)) }
+    {
+        let rise = rise(self.region.kind());
+        self.change(corner, rise);
+    }
+
+    /// Lowers an inner corner from which all steps fall by the rise of a flip.
+    pub fn lower(&mut self, corner: Corner)
+        requires inner { IsTrue (is_inner self.old.region corner) }
+        requires high { IsTrue (falls_from self.old.region self.old.numbers corner) }
+        ensures region { self.new.region ≡ self.old.region }
+        ensures lowered { IsChangedAt self.old.region self.old.numbers self.new.numbers corner
+            (negsuc (rise self.old.region.kind - 1)) }
+    {
+        let rise = rise(self.region.kind());
+        self.change(corner, -rise);
+    }
+
+    // Adds so much to the height of a corner. What results has to be lawful heights.
+    fn change(&mut self, corner: Corner, more: i32)
+        requires of_region { IsTrue (is_corner_of self.old.region corner) }
+        requires least { neg_ℤ (pos 4) ≤ℤ more }
+        requires most { more ≤ℤ pos 4 }
+        requires lawful { (others : List ℤ) → IsChangedAt self.old.region self.old.numbers others corner more
+            → AreLawful self.old.region others }
+        ensures region { self.new.region ≡ self.old.region }
+        ensures changed { IsChangedAt self.old.region self.old.numbers self.new.numbers corner more }
+    {
+        let height = self.at(corner) + more;
+        let width = self.region.columns() as usize + 2;
+        self.numbers[corner.r as usize * width + corner.x as usize] = height;
     }
 
     /// Prints the drawing of the tiling with these heights: one line for each row, each with a line feed, of as many

@@ -20,10 +20,10 @@ pub record IsMildChoice (choice : ℤ → ℤ → ℤ) : Type 0 where
   pub one : (y z : ℤ) → (choice y z ≡ y) ⊎ (choice y z ≡ z)
   pub mild : (x y x' y' : ℤ) → x' ≤ℤ (x +ℤ pos 1) → y' ≤ℤ (y +ℤ pos 1) → choice x' y' ≤ℤ (choice x y +ℤ pos 1)
 
-greater-one : (y z : ℤ) → (greater y z ≡ y) ⊎ (greater y z ≡ z)
+pub greater-one : (y z : ℤ) → (greater y z ≡ y) ⊎ (greater y z ≡ z)
 greater-one y z = elim (int_le y z) as (λ t. ((if t then z else y) ≡ y) ⊎ ((if t then z else y) ≡ z)) [ true ↦ inr refl | false ↦ inl refl ]
 
-greater-upper : (y z : ℤ) → (y ≤ℤ greater y z) × (z ≤ℤ greater y z)
+pub greater-upper : (y z : ℤ) → (y ≤ℤ greater y z) × (z ≤ℤ greater y z)
 greater-upper y z = grind (arith, ints)
 
 -- from more, or to less, it still rises by no more than 1
@@ -40,10 +40,10 @@ greater-mild = record { one = greater-one; mild = λ x y x' y' e f. go x y x' y'
     go x y x' y' e f (inl same) = rises x x' (greater x y) (greater x' y') e (greater-upper x y).0 (le-same (greater x' y') x' same)
     go x y x' y' e f (inr same) = rises y y' (greater x y) (greater x' y') f (greater-upper x y).1 (le-same (greater x' y') y' same)
 
-lesser-one : (y z : ℤ) → (lesser y z ≡ y) ⊎ (lesser y z ≡ z)
+pub lesser-one : (y z : ℤ) → (lesser y z ≡ y) ⊎ (lesser y z ≡ z)
 lesser-one y z = elim (int_le y z) as (λ t. ((if t then y else z) ≡ y) ⊎ ((if t then y else z) ≡ z)) [ true ↦ inl refl | false ↦ inr refl ]
 
-lesser-lower : (y z : ℤ) → (lesser y z ≤ℤ y) × (lesser y z ≤ℤ z)
+pub lesser-lower : (y z : ℤ) → (lesser y z ≤ℤ y) × (lesser y z ≤ℤ z)
 lesser-lower y z = grind (arith, ints)
 
 pub lesser-mild : IsMildChoice lesser

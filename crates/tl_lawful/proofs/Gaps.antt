@@ -10,7 +10,7 @@ use Rattle.tl_lawful.specs.HeightGap.{height_gap}
 abbrev pub apart_at : List ℤ → List ℤ → ℕ → ℕ
 apart_at a b k = unsigned_abs (get_or a k (pos 0) -ℤ get_or b k (pos 0))
 
-gap-cons : (x y : ℤ) (xs ys : List ℤ) → height_gap (x ∷ xs) (y ∷ ys) ≡ unsigned_abs (x -ℤ y) + height_gap xs ys
+pub gap-cons : (x y : ℤ) (xs ys : List ℤ) → height_gap (x ∷ xs) (y ∷ ys) ≡ unsigned_abs (x -ℤ y) + height_gap xs ys
 gap-cons x y xs ys = sum_by-cons (λ n. n) (unsigned_abs (x -ℤ y)) (map (λ p. unsigned_abs (p.0 -ℤ p.1)) (zip xs ys))
 
 -- one number changed changes one difference

@@ -7,4 +7,5 @@ mod Gaps
 mod Numbers
 mod Places
 mod OneFlip
+mod ChangedGap
 mod Distance

@@ -14,14 +14,14 @@ use Rattle.tl_definitions.specs.Flip.{stands_high, stands_low, can_flip, flip}
 use Rattle.tl_lists.specs.Lists.{put_at}
 use Rattle.tl_lists.proofs.Puts.{put_at-one}
 use Rattle.tl_closing.proofs.Stated.{heights-lawful, inner-of_region, lowered-flip, place-within, put-changed, raised-flip, same-residue, standing-heights}
-use Rattle.tl_lawful.proofs.Stated.{over-lowered, under-raised, ToLower, ToRaise}
+use Rattle.tl_lawful.proofs.UnderTarget.{over-lowered, under-raised, ToLower, ToRaise}
 use Rattle.tl_lawful.specs.HeightGap.{height_gap}
 use Rattle.tl_lawful.proofs.Gaps.{gap-set}
 use Rattle.tl_lawful.proofs.Numbers.{raised-near, lowered-near, raised-nearer, lowered-nearer}
 use Rattle.tl_lawful.proofs.Places.{gap-differ}
 
 -- heights with so much more at one corner
-abbrev with_more : Region → List ℤ → Corner → ℤ → List ℤ
+abbrev pub with_more : Region → List ℤ → Corner → ℤ → List ℤ
 with_more R numbers v more = put_at (v.r * (R.columns + 2) + v.x) ((height R numbers v +ℤ more) ∷ []) numbers
 
 -- the flipped tiling's heights, of which so much is known

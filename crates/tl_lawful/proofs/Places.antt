@@ -16,7 +16,7 @@ use Rattle.tl_lawful.specs.HeightGap.{height_gap}
 use Rattle.tl_lawful.proofs.Gaps.{IsMultiple, apart-gap, gap-multiple, gap-none}
 use Rattle.tl_lawful.proofs.Numbers.{apart-multiple, apart-same, same-apart}
 
-each-place : (R : Region) (a b : List ℤ) (P : ℤ → ℤ → Type 0) → AreHeightsOf R a → AreHeightsOf R b → P (pos 0) (pos 0)
+pub each-place : (R : Region) (a b : List ℤ) (P : ℤ → ℤ → Type 0) → AreHeightsOf R a → AreHeightsOf R b → P (pos 0) (pos 0)
     → ((v : Corner) → is_corner_of R v ≡ true → P (height R a v) (height R b v)) → (k : ℕ) → P (get_or a k (pos 0)) (get_or b k (pos 0))
 each-place R a b P p q zeros corners k =
     subst (λ (n : ℕ). P (get_or a n (pos 0)) (get_or b n (pos 0))) (div-add-mod' k (R.columns + 2))

@@ -35,7 +35,7 @@ depth R numbers v = pos 0 -ℤ height R numbers v
 
 module _ (R : Region) (numbers target : List ℤ) (accepted : Accepted R) (lawful : AreLawful R numbers) (target_lawful : AreLawful R target) where
   -- on the circuit all lawful heights are the same, so where two differ the corner is an inner one
-  apart-inner : (v : Corner) → is_corner_of R v ≡ true → (height R numbers v ≡ height R target v → ⊥) → is_inner R v ≡ true
+  pub apart-inner : (v : Corner) → is_corner_of R v ≡ true → (height R numbers v ≡ height R target v → ⊥) → is_inner R v ≡ true
   apart-inner v of_region apart = with_walk accepted.circuit
     where
       with_walk : (walk : List Side) × IsCircuit R walk → is_inner R v ≡ true

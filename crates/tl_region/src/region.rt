@@ -124,6 +124,14 @@ impl Region {
         inner_corner(&self.grid, self.inner.as_slice(), i)
     }
 
+    /// The places of the inner corners in raster order: corner r x is at place r (columns + 2) + x.
+    pub fn inner_places(&self) -> &[u32]
+        ensures places { result.now ≡ inner_places self.now }
+        ensures is_grid { IsGrid self.now }
+    {
+        self.inner.as_slice()
+    }
+
     /// The boundary's sides in order, with the region on the left, from the boundary corner that is first in raster
     /// order.
     pub fn boundary(&self) -> &[BoundaryStep]

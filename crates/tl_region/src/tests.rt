@@ -240,6 +240,14 @@ fn inner_corners_are_numbered_in_raster_order(rt: HostRuntime) -> Result<(), Fai
 }
 
 #[test]
+fn places_of_inner_corners_go_row_by_row(rt: HostRuntime) -> Result<(), Fail> {
+    let text = b"square\n.##\n####\n####\n.##\n".as_slice();
+    let (region, _) = read_region(rt.alloc(), text)?;
+    assert_eq!(rt; region.inner_places(), [8u32, 13, 14, 15, 20].as_slice());
+    Ok(())
+}
+
+#[test]
 fn regions_with_bays_and_bridges_are_accepted(rt: HostRuntime) {
     let cases: [(&[u8], Option<RegionFault>); 12] = [
         (

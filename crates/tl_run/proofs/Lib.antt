@@ -2,6 +2,8 @@ mod ReaderLemmas
 mod ReplyLemmas
 mod WritingLemmas
 mod RunLemmas
+mod DrawingLemmas
+mod FlipLemmas
 mod CheckLemmas
 mod StopLemmas
 mod RunExamples

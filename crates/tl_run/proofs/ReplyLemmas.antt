@@ -1,15 +1,20 @@
 -- The statuses of what each command is answered with: a line for each.
-use Rattle.std.proofs.Common.{ℕ, List, refl, inl, inr}
+use Rattle.std.proofs.Common.{ℕ, ◌<◌, Bool, true, false, List, length, refl, inl, inr}
+use Rattle.std.specs.Prelude.{nat_lt, if◌then◌else◌}
+use Rattle.tl_definitions.specs.declared.Corner.{Corner}
+use Rattle.tl_definitions.specs.declared.Tile.{Tile}
 use Rattle.tl_definitions.specs.Region.{Region}
 use Rattle.tl_definitions.specs.Obstruction.{Obstruction}
 use Rattle.tl_text.specs.declared.Command.{Command}
 use Rattle.tl_text.specs.declared.Command.TheVariants.{Check, Decide, Refute, Flips, Distance, Sample, Gen}
+use Rattle.tl_flip.specs.declared.shortest.TheConstants.{FLIP_LIMIT}
 use Rattle.tl_formats.specs.Drawing.{DrawingRefusal, bad_letter, unmatched}
-use Rattle.tl_run.specs.Answers.{Answer, Is}
-use Rattle.tl_run.specs.Refusals.{usage, check_refused}
-use Rattle.tl_run.specs.Readers.{AtEnd}
+use Rattle.tl_run.specs.Answers.{Answer, answer, Allows, Is}
+use Rattle.tl_run.specs.Refusals.{usage, check_refused, drawing_refused}
+use Rattle.tl_run.specs.Readers.{OfDrawing, AtEnd}
 use Rattle.tl_run.specs.Check.{yes, DrawingReply, CheckReply}
 use Rattle.tl_run.specs.Decide.{tiled, blocked, Decided, RegionReply, DecideReply}
+use Rattle.tl_run.specs.Flips.{TwoDrawings, flips_text, too_long, told_path, IsPathAnswer, FlipsReply, told_distance, IsDistanceAnswer, DistanceReply}
 use Rattle.tl_run.specs.Refute.{refuted, not_refuted, Judged, ReasonReply, RefuteReply}
 use Rattle.tl_run.specs.Replies.{meaning_of, Answers}
 use Rattle.tl_run.proofs.ReaderLemmas.{IsHeard, Is-heard, OfInput-heard, OfRegion-heard, OfDrawing-heard, OfObstruction-heard, AtEnd-heard}
@@ -45,6 +50,38 @@ RefuteReply-heard input a =
     OfRegion-heard input ReasonReply a
     (λ R rest. OfObstruction-heard rest (λ o end. AtEnd end (Judged R o)) a (λ o end. AtEnd-heard end (Judged R o) a (Judged-heard R o a)))
 
+-- ---- flips and distance
+
+TwoDrawings-heard : (R : Region) (bytes : List ℕ) (P : List Tile → List Tile → Allows) (a : Answer) → ((A B : List Tile) → P A B a → IsHeard a)
+    → TwoDrawings R bytes P a → IsHeard a
+TwoDrawings-heard R bytes P a next =
+    OfDrawing-heard (drawing_refused 1) R bytes (λ A rest. OfDrawing (drawing_refused 2) R rest (λ B end. AtEnd end (P A B))) a (refused-heard 1)
+    (λ A rest. OfDrawing-heard (drawing_refused 2) R rest (λ B end. AtEnd end (P A B)) a (refused-heard 2)
+    (λ B end. AtEnd-heard end (P A B) a (next A B)))
+  where
+    refused-heard : (n : ℕ) (f : DrawingRefusal) → IsHeard (drawing_refused n f)
+    refused-heard n f = refl
+
+IsPathAnswer-heard : (R : Region) (A B : List Tile) (a : Answer) → IsPathAnswer R A B a → IsHeard a
+IsPathAnswer-heard R A B a (path, shortest, e) = Is-heard (told_path path) a (told (nat_lt FLIP_LIMIT (length path))) e
+  where
+    told : (b : Bool) → IsHeard (if b then too_long (length path) else answer (flips_text path) 0)
+    told true = refl
+    told false = refl
+
+IsDistanceAnswer-heard : (R : Region) (A B : List Tile) (a : Answer) → IsDistanceAnswer R A B a → IsHeard a
+IsDistanceAnswer-heard R A B a (n, distance, e) = Is-heard (told_distance n) a refl e
+
+FlipsReply-heard : (input : List ℕ) (a : Answer) → FlipsReply input a → IsHeard a
+FlipsReply-heard input a =
+    OfRegion-heard input (λ R rest. TwoDrawings R rest (IsPathAnswer R)) a
+    (λ R rest. TwoDrawings-heard R rest (IsPathAnswer R) a (λ A B. IsPathAnswer-heard R A B a))
+
+DistanceReply-heard : (input : List ℕ) (a : Answer) → DistanceReply input a → IsHeard a
+DistanceReply-heard input a =
+    OfRegion-heard input (λ R rest. TwoDrawings R rest (IsDistanceAnswer R)) a
+    (λ R rest. TwoDrawings-heard R rest (IsDistanceAnswer R) a (λ A B. IsDistanceAnswer-heard R A B a))
+
 -- ---- all commands
 
 -- no command is answered with the status of a failed read
@@ -52,7 +89,7 @@ pub Answers-heard : (c : Command) (input : List ℕ) (a : Answer) → Answers (m
 Answers-heard Check input a = OfInput-heard input (CheckReply input) a (CheckReply-heard input a)
 Answers-heard Decide input a = OfInput-heard input (DecideReply input) a (DecideReply-heard input a)
 Answers-heard Refute input a = OfInput-heard input (RefuteReply input) a (RefuteReply-heard input a)
-Answers-heard Flips input a = Is-heard usage a refl
-Answers-heard Distance input a = Is-heard usage a refl
+Answers-heard Flips input a = OfInput-heard input (FlipsReply input) a (FlipsReply-heard input a)
+Answers-heard Distance input a = OfInput-heard input (DistanceReply input) a (DistanceReply-heard input a)
 Answers-heard (Sample job) input a = Is-heard usage a refl
 Answers-heard (Gen gen) input a = Is-heard usage a refl

@@ -10,3 +10,4 @@ pub mod Runs
 pub mod Statuses
 pub mod Replying
 pub mod Decide
+pub mod Flips

@@ -26,6 +26,11 @@ OfRegion bytes P a =
     let s = first_section bytes in
     RefusesRegion bytes a ⊎ ((R : Region) × IsRegionText s.lines R × P R s.rest a)
 
+-- the lines of a further section draw no tiling, for this first cause
+abbrev pub RefusesDrawing : (DrawingRefusal → Answer) → Region → List ℕ → Allows
+RefusesDrawing refused R bytes a =
+    (f : DrawingRefusal) × (drawing_refusal R (further_section bytes).lines ≡ Some f) × Is (refused f) a
+
 -- The tiling that a further section draws. What a refused drawing is answered with is the command's affair.
 abbrev pub OfDrawing : (DrawingRefusal → Answer) → Region → List ℕ → (List Tile → List ℕ → Allows) → Allows
 OfDrawing refused R bytes P a =

@@ -1,7 +1,7 @@
 -- What the program answers to words and an input: a line for each command.
 use Rattle.std.specs.Prelude.{ℕ, Bool, true, false, not, ◌&&◌, ◌||◌, ◌==◌, List, Some, None}
 use Rattle.tl_text.specs.declared.Command.{Command}
-use Rattle.tl_text.specs.declared.Command.TheVariants.{Check, Decide, Refute, Sample, Gen}
+use Rattle.tl_text.specs.declared.Command.TheVariants.{Check, Decide, Refute, Flips, Distance, Sample, Gen}
 use Rattle.tl_text.specs.declared.SampleJob.{SampleJob}
 use Rattle.tl_text.specs.Words.{command}
 use Rattle.tl_run.specs.Answers.{Allows, Is}
@@ -9,6 +9,7 @@ use Rattle.tl_run.specs.Refusals.{usage}
 use Rattle.tl_run.specs.Readers.{OfInput}
 use Rattle.tl_run.specs.Check.{CheckReply}
 use Rattle.tl_run.specs.Decide.{DecideReply}
+use Rattle.tl_run.specs.Flips.{FlipsReply, DistanceReply}
 use Rattle.tl_run.specs.Refute.{RefuteReply}
 
 -- How a command is answered: not at all, where it isn't there yet; without an input; or by what its input says.
@@ -21,6 +22,8 @@ abbrev pub meaning_of : Command → Meaning
 meaning_of Check = ByInput CheckReply
 meaning_of Decide = ByInput DecideReply
 meaning_of Refute = ByInput RefuteReply
+meaning_of Flips = ByInput FlipsReply
+meaning_of Distance = ByInput DistanceReply
 meaning_of _ = Absent
 
 -- what the words ask for; words that are no command ask for what isn't there

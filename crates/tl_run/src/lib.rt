@@ -4,6 +4,8 @@
 mod check;
 mod command_line;
 mod decide;
+mod flips;
+mod path_text;
 mod readers;
 mod refusals;
 mod refute;

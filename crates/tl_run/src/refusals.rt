@@ -1,6 +1,8 @@
 //! The replies that refuse words or an input: all their texts.
 
-ghost use Rattle.std.specs.Prelude.{◌≡◌, IfOk, IsSomeAnd};
+ghost use Rattle.std.specs.Prelude.{◌≡◌, IfOk, IsSomeAnd, ◌∷◌, codes, decimal};
+ghost use Rattle.std.specs.String.{string_bytes};
+ghost use Rattle.tl_formats.specs.Texts.{line, cell_words};
 ghost use Rattle.tl_formats.specs.RegionText;
 ghost use Rattle.tl_formats.specs.Drawing;
 ghost use Rattle.tl_region.specs.Refusals.{refusal_by as region_refusal_by};
@@ -128,13 +130,51 @@ pub fn obstruction_refused(alloc: Global, fault: TextFault) -> Stop
     }
 }
 
+// Where a drawing is wrong, and why.
+fn wrong_at(alloc: Global, drawing: u32, cause: &str, cell: Cell) -> Result<String, AllocError>
+    ensures { IfOk result (λ text. string_bytes text
+        ≡ line (codes "drawing" ∷ decimal drawing ∷ cause.now ∷ cell_words cell)) }
+{
+    let Cell { r, c } = cell;
+    Ok(format!(in alloc; "drawing {drawing} {cause} {r} {c}\n")?)
+}
+
 fn bad_letter(alloc: Global, drawing: u32, cell: Cell) -> Result<Reply, AllocError>
     ensures { IfOk result (λ reply. answer_of reply
         ≡ answers.drawing_refused drawing (Drawing.bad_letter cell)) }
 {
-    let Cell { r, c } = cell;
-    let text = format!(in alloc; "drawing {drawing} bad letter {r} {c}\n")?;
+    let text = wrong_at(alloc, drawing, "bad letter", cell)?;
     Ok(Reply::made(text, Status::Input))
+}
+
+fn unmatched(alloc: Global, drawing: u32, cell: Cell) -> Result<Reply, AllocError>
+    ensures { IfOk result (λ reply. answer_of reply
+        ≡ answers.drawing_refused drawing (Drawing.unmatched cell)) }
+{
+    let text = wrong_at(alloc, drawing, "unmatched", cell)?;
+    Ok(Reply::made(text, Status::Input))
+}
+
+fn drawing_reply(alloc: Global, drawing: u32, fault: DrawFault) -> Result<Reply, AllocError>
+    ensures { IfOk result (λ reply. IsSomeAnd (drawing_refusal_by fault)
+        (λ f. answer_of reply ≡ answers.drawing_refused drawing f)) }
+{
+    match fault {
+        DrawFault::BadLetter(cell) => bad_letter(alloc, drawing, cell),
+        DrawFault::Unmatched(cell) => unmatched(alloc, drawing, cell),
+        DrawFault::OutOfMemory => Err(AllocError),
+    }
+}
+
+/// The drawing of this number is refused.
+pub fn drawing_refused(alloc: Global, drawing: u32, fault: DrawFault) -> Stop
+    ensures { IfRefused result (λ a. IsSomeAnd (drawing_refusal_by fault)
+        (λ f. Is (answers.drawing_refused drawing f) a)) }
+{
+    match drawing_reply(alloc, drawing, fault) {
+        Ok(reply) => Stop::Refused(reply),
+        Err(AllocError) => Stop::Memory,
+    }
 }
 
 // The answer of `check` to a drawing in which a cell isn't matched.

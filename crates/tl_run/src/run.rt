@@ -8,6 +8,7 @@ ghost use Rattle.tl_run.specs.Writing.{Writing};
 
 use crate::check::check;
 use crate::decide::decide;
+use crate::flips::{distance, flips};
 use crate::refusals::{input_too_long, read_fault, usage};
 use crate::refute::refute;
 use crate::status::Status;
@@ -23,7 +24,10 @@ fn is_there(command: Command) -> bool
     ensures there { result ≡ true → IsTrue (reads_input (meaning_of command)) }
     ensures absent { result ≡ false → IsAbsent (meaning_of command) }
 {
-    matches!(command, Command::Check | Command::Decide | Command::Refute)
+    matches!(
+        command,
+        Command::Check | Command::Decide | Command::Refute | Command::Flips | Command::Distance
+    )
 }
 
 // Answers an input: an arm for each command.
@@ -36,6 +40,8 @@ fn answer_input<K: Sink>(alloc: Global, command: Command, input: &[u8], sink: &m
         Command::Check => write_made(sink, &check(alloc, input)),
         Command::Decide => write_made(sink, &decide(alloc, input)),
         Command::Refute => write_made(sink, &refute(alloc, input)),
+        Command::Flips => write_made(sink, &flips(alloc, input)),
+        Command::Distance => write_made(sink, &distance(alloc, input)),
         _ => write_reply(sink, &usage()),
     }
 }

@@ -325,6 +325,109 @@ fn a_reason_without_a_tiling_holds_or_doesnt(rt: HostRuntime) -> Result<(), Allo
 }
 
 #[test]
+fn two_drawings_have_a_distance_or_a_refusal(rt: HostRuntime) -> Result<(), AllocError> {
+    let cases: [(&[u8], &[u8], Status); 13] = [
+        (
+            b"square\n###\n###\n\n><v\n><^\n\nv><\n^><\n",
+            b"distance 2\n",
+            Status::Answered,
+        ),
+        (
+            b"triangle\n###\n###\n\n><v\n><^\n\nv><\n^><\n",
+            b"distance 1\n",
+            Status::Answered,
+        ),
+        (
+            b"square\r\n###\r\n###\r\n\r\n><v\r\n><^\r\n\r\n\r\n><v\r\n><^",
+            b"distance 0\n",
+            Status::Answered,
+        ),
+        (
+            b"square\n##\n##\n\n><\n><\n\n>>\n><\n",
+            b"drawing 2 unmatched 0 0\n",
+            Status::Input,
+        ),
+        (
+            b"square\n##\n##\n\n>>\n><\n\n><\n><\n",
+            b"drawing 1 unmatched 0 0\n",
+            Status::Input,
+        ),
+        (
+            b"square\n##\n##\n\nx<\n><\n\n>>\n><\n",
+            b"drawing 1 bad letter 0 0\n",
+            Status::Input,
+        ),
+        (
+            b"square\n##\n##\n\n><\n><\n\n><\n>.\n",
+            b"drawing 2 bad letter 1 1\n",
+            Status::Input,
+        ),
+        (
+            b"square\n##\n##\n\n><\n><\n",
+            b"drawing 2 bad letter 0 0\n",
+            Status::Input,
+        ),
+        (
+            b"square\n##\n##\n",
+            b"drawing 1 bad letter 0 0\n",
+            Status::Input,
+        ),
+        (
+            b"square\n##\n##\n\n><\n><\n\n><\n><\n\n><\n",
+            b"extra text\n",
+            Status::Input,
+        ),
+        (
+            b"square\n##\n##\n\n>>\n><\n\n><\n><\n\n><\n",
+            b"drawing 1 unmatched 0 0\n",
+            Status::Input,
+        ),
+        (
+            b"square\n#x\n##\n\n>>\n><\n",
+            b"bad byte 0 1\n",
+            Status::Input,
+        ),
+        (
+            b"square\n#\n\n>\n\n>\n",
+            b"drawing 1 unmatched 0 0\n",
+            Status::Input,
+        ),
+    ];
+    for (input, reply, wanted) in cases {
+        let (status, sink) = answered(&rt, rt.alloc(), "distance", input)?;
+        assert_eq!(rt; sink.held(), reply, "{input:?}");
+        assert_eq!(rt; status, wanted, "{input:?}");
+        if status == Status::Input {
+            let (status, sink) = answered(&rt, rt.alloc(), "flips", input)?;
+            assert_eq!(rt; sink.held(), reply, "{input:?}");
+            assert_eq!(rt; status, wanted, "{input:?}");
+        }
+    }
+    Ok(())
+}
+
+#[test]
+fn a_shortest_flip_path_is_told(rt: HostRuntime) -> Result<(), AllocError> {
+    let cases: [(&[u8], &[u8]); 3] = [
+        (
+            b"square\n###\n###\n\n><v\n><^\n\nv><\n^><\n",
+            b"flips 2\n1 1\n1 2\n",
+        ),
+        (b"square\n###\n###\n\n><v\n><^\n\n><v\n><^\n", b"flips 0\n"),
+        (
+            b"triangle\n###\n###\n\n><v\n><^\n\nv><\n^><\n",
+            b"flips 1\n1 2\n",
+        ),
+    ];
+    for (input, reply) in cases {
+        let (status, sink) = answered(&rt, rt.alloc(), "flips", input)?;
+        assert_eq!(rt; sink.held(), reply, "{input:?}");
+        assert_eq!(rt; status, Status::Answered, "{input:?}");
+    }
+    Ok(())
+}
+
+#[test]
 fn a_region_has_at_most_512_rows_and_columns(rt: HostRuntime) -> Result<(), AllocError> {
     let head = b"square\n".as_slice();
     let cases: [(usize, &[u8]); 2] = [

@@ -1,15 +1,12 @@
-use Rattle.std.proofs.Common.{◌≡◌, ◌+◌, map, take}
-use Rattle.tl_definitions.specs.Accepted.{circuit_corners}
+use Rattle.std.proofs.Common.{◌≡◌, ◌+◌, map}
 use Rattle.tl_definitions.specs.Obstruction.{prefix}
 use Rattle.tl_lists.specs.Lists.{upto}
 use Rattle.tl_grid.specs.Sides.{side_by}
-use Rattle.tl_boundary.specs.Walk.{AreNumbers}
 use Rattle.tl_boundary.proofs.circuit.Given as goal
 
-abbrev pub invariant-loop-k : goal.invariant-loop-k
-invariant-loop-k l =
+abbrev pub invariant-loop-step : goal.invariant-loop-step
+invariant-loop-step l =
     record {
-      sum : l.sum ≡ prefix (map (side_by l.region.kind) l.steps) l.k;
-      prefixes : l.prefixes.items ≡ map (prefix (map (side_by l.region.kind) l.steps)) (upto (l.k + 1));
-      places : AreNumbers l.region (take l.k (circuit_corners (map (side_by l.region.kind) l.steps))) l.places.items;
+      sum : l.sum ≡ prefix (map (side_by l.region.kind) l.steps) l.step-index;
+      prefixes : l.prefixes.items ≡ map (prefix (map (side_by l.region.kind) l.steps)) (upto (l.step-index + 1));
     }

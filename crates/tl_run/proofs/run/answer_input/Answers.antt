@@ -1,8 +1,9 @@
 use Rattle.std.proofs.Common.{sym, subst}
 use Rattle.tl_text.specs.declared.Command.{Command}
-use Rattle.tl_text.specs.declared.Command.TheVariants.{Check, Decide, Refute}
+use Rattle.tl_text.specs.declared.Command.TheVariants.{Check, Decide, Distance, Flips, Refute}
 use Rattle.tl_run.specs.Check.{CheckReply}
 use Rattle.tl_run.specs.Decide.{DecideReply}
+use Rattle.tl_run.specs.Flips.{FlipsReply, DistanceReply}
 use Rattle.tl_run.specs.Refute.{RefuteReply}
 use Rattle.tl_run.specs.Replies.{Answers, meaning_of, takes_memory_first}
 use Rattle.tl_run.specs.Replying.{Makes}
@@ -39,3 +40,21 @@ returns-in-Decide g c =
     (sym c.in-Decide.is)
     (Writing-weaker (Makes c.decide.result) (Answers (meaning_of Decide) input) (takes_memory_first Decide) _ _ _
     (λ a p. OfInput-short input (DecideReply input) a c.requires (Makes-allowed c.decide.result (DecideReply input) c.decide.ensures a p)) c.write_made-in-Decide.ensures)
+
+pub returns-in-Flips : goal.returns-in-Flips
+returns-in-Flips g c =
+    let input = c.args.input.now in
+    subst
+    (λ (k : Command). Writing (Answers (meaning_of k) input) (takes_memory_first k) (g.K.Sink.state c.args.sink.now) (g.K.Sink.state c.write_made-in-Flips.new.sink) (code_of c.write_made-in-Flips.result))
+    (sym c.in-Flips.is)
+    (Writing-weaker (Makes c.flips.result) (Answers (meaning_of Flips) input) (takes_memory_first Flips) _ _ _
+    (λ a p. OfInput-short input (FlipsReply input) a c.requires (Makes-allowed c.flips.result (FlipsReply input) c.flips.ensures a p)) c.write_made-in-Flips.ensures)
+
+pub returns-in-Distance : goal.returns-in-Distance
+returns-in-Distance g c =
+    let input = c.args.input.now in
+    subst
+    (λ (k : Command). Writing (Answers (meaning_of k) input) (takes_memory_first k) (g.K.Sink.state c.args.sink.now) (g.K.Sink.state c.write_made-in-Distance.new.sink) (code_of c.write_made-in-Distance.result))
+    (sym c.in-Distance.is)
+    (Writing-weaker (Makes c.distance.result) (Answers (meaning_of Distance) input) (takes_memory_first Distance) _ _ _
+    (λ a p. OfInput-short input (DistanceReply input) a c.requires (Makes-allowed c.distance.result (DistanceReply input) c.distance.ensures a p)) c.write_made-in-Distance.ensures)

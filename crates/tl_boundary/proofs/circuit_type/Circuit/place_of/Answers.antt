@@ -1,19 +1,25 @@
-use Rattle.std.proofs.Common.{◌≡◌, ℕ, ◌*◌, List, None, ap, subst, arith}
+use Rattle.std.proofs.Common.{◌≡◌, Option, Some, None, ◌∙◌, ap, sym, subst, List, map, ℕ, below_more}
 use Rattle.std.specs.Prelude.{position}
 use Rattle.tl_definitions.specs.Lattice.{corner_eq, Side}
 use Rattle.tl_definitions.specs.Accepted.{circuit_corners}
-use Rattle.tl_boundary.proofs.TableLemmas.{off, place-within}
+use Rattle.tl_grid.specs.Sides.{side_by}
+use Rattle.tl_grid.specs.declared.walk.BoundaryStep.{BoundaryStep}
+use Rattle.tl_boundary.proofs.SideLemmas.{position-found, position-none}
 use Rattle.tl_boundary.proofs.circuit_type.Circuit.place_of.Goals as goal
 
-pub returns-then-corner-self : goal.returns-then-corner-self
-returns-then-corner-self c =
-    let (R, tables) = c.self.invariant in
-    subst (λ (sides : List Side). None ≡ position (corner_eq c.args.corner) (circuit_corners sides)) c.self.view_is
-    (off R _ tables.is_grid tables.circuit c.args.corner (λ p. omega (arith, p.1, c.if-corner-self.true, tables.wide)))
+pub loop-k-preserved : goal.loop-k-preserved
+loop-k-preserved c = below_more _ _ c.loop-k.invariant (sym (c.if-eq.ensures ∙ ap (corner_eq c.args.corner) c.start.ensures))
 
-pub returns-then-place-len : goal.returns-then-place-len
-returns-then-place-len c =
-    let (R, tables) = c.self.invariant in
-    subst (λ (sides : List Side). None ≡ position (corner_eq c.args.corner) (circuit_corners sides)) c.self.view_is
-    (off R _ tables.is_grid tables.circuit c.args.corner
-    (λ p. omega (arith, place-within R c.args.corner p, tables.places.size, ap (λ (n : ℕ). c.args.corner.r * n) tables.wide, c.if-place-len.true, c.len.ensures, c.self.inside.places.ok.0)))
+pub returns-then-eq : goal.returns-then-eq
+returns-then-eq c =
+    let sides = ap (λ (l : List BoundaryStep). map (side_by c.self.inside.kind) l) c.deref-step-items.ensures.value ∙ c.self.view_is in
+    subst (λ (l : List Side). Some c.loop-k.k ≡ position (corner_eq c.args.corner) (circuit_corners l)) sides
+    (sym (position-found c.self.inside.kind c.deref-step-items.result.now c.args.corner c.loop-k.k _ c.loop-k.invariant c.loop-k-test.true
+    (sym (c.if-eq.ensures ∙ ap (corner_eq c.args.corner) c.start.ensures))))
+
+pub returns : goal.returns
+returns c =
+    let sides = ap (λ (l : List BoundaryStep). map (side_by c.self.inside.kind) l) c.deref-step-items.ensures.value ∙ c.self.view_is in
+    let none : Option ℕ = None in
+    subst (λ (l : List Side). none ≡ position (corner_eq c.args.corner) (circuit_corners l)) sides
+    (sym (position-none c.self.inside.kind c.deref-step-items.result.now c.args.corner c.loop-k.k _ c.loop-k.invariant c.loop-k-test.false c.loop-k.auto.k-end))

@@ -12,7 +12,7 @@ use Rattle.tl_definitions.specs.declared.Corner.{Corner}
 use Rattle.tl_definitions.specs.Region.{Region}
 use Rattle.tl_definitions.specs.Accepted.{Accepted, cell_count}
 use Rattle.tl_definitions.specs.Heights.{AreLawful}
-use Rattle.tl_closing.proofs.Stated.{Within, heights-small, corner-within, cells-few, place-within}
+use Rattle.tl_closing.proofs.Stated.{heights-within_limits, place-within}
 use Rattle.tl_height.proofs.heights.Heights.at.Goals as goal
 use Rattle.tl_height.proofs.heights.Heights.at.Goals.{After-columns}
 use Rattle.tl_definitions.specs.declared.TheConstants.{SIDE_LIMIT}
@@ -37,16 +37,8 @@ returns-clause-height c =
 
 near : (R : Region) (numbers : List ℤ) (v : Corner) → Accepted R → AreLawful R numbers → R.rows ≤ SIDE_LIMIT → R.columns ≤ SIDE_LIMIT → is_corner_of R v ≡ true
     → (z y : ℤ) → z ≡ height R numbers v → y ≡ z → (neg_ℤ (pos most_height) ≤ℤ y) × (y ≤ℤ pos most_height)
-near R numbers v accepted lawful rows columns e z y f g = (omega (arith, ints, s.0, s.1, f, g, few, column, columns), omega (arith, ints, s.0, s.1, f, g, few, column, columns))
-  where
-    s : Within (4 * cell_count R + 3 * v.x) (height R numbers v)
-    s = heights-small R numbers accepted lawful v e
-
-    column : v.x < R.columns + 2
-    column = (corner-within R v accepted.placed e).1
-
-    few : cell_count R ≤ most_cells
-    few = let least : cell_count R ≤ R.rows * R.columns = cells-few R accepted.placed in omega (arith, least, mul-le-mul rows columns)
+near R numbers v accepted lawful rows columns e z y f g =
+    subst (λ (h : ℤ). (neg_ℤ (pos most_height) ≤ℤ h) × (h ≤ℤ pos most_height)) (sym (g ∙ f)) (heights-within_limits R numbers v accepted lawful rows columns e)
 
 pub returns-clause-low : goal.returns-clause-low
 returns-clause-low c =

@@ -1,0 +1,8 @@
+//! Which way heights are moved.
+
+/// Which way heights are moved.
+#[derive(Clone, Copy)]
+pub(crate) enum Direction {
+    Up,
+    Down,
+}

@@ -1,0 +1,6 @@
+use Rattle.std.proofs.Common.{arith}
+use Rattle.tl_lanes.proofs.Lanes.{stored-greater}
+use Rattle.tl_lanes.proofs.order.greatest_of_block.Goals as goal
+
+pub returns : goal.returns
+returns c = stored-greater c.args.a.now c.args.b.now c.load-left.result c.load-right.result (omega arith) c.load-left.ensures.same c.load-right.ensures.same c.load-left.ensures.fits c.load-right.ensures.fits

@@ -1,0 +1,7 @@
+use Rattle.std.proofs.Common.{◌≡◌}
+use Rattle.tl_lanes.specs.Lanes.{lesser}
+use Rattle.tl_lanes.proofs.Rows.{combined}
+use Rattle.tl_lanes.proofs.order.least_of_rest.Given as goal
+
+abbrev pub invariant-loop-i : goal.invariant-loop-i
+invariant-loop-i l = l.a ≡ combined lesser l.i l.fn.a l.b
