@@ -8,7 +8,14 @@ use crate::status::Status;
 use std::alloc::{AllocError, Global};
 use std::env::{Env, FillError};
 use std::thread::Threads;
+use tl_boundary::circuit;
+use tl_extreme::{Verdict, extremes};
+use tl_flip::path;
+use tl_formats::INPUT_LIMIT;
+use tl_height::Heights;
 use tl_io::{FreeGate, MemSink, MemSource, Source, Took};
+use tl_region::read_region;
+use tl_text::{Shape, shape_text};
 
 const USAGE: &[u8] = b"usage: tilings check | decide | refute | flips | distance
        tilings sample [--seed S] [--count N] [--bound B] [--workers W] [--bands K]
@@ -423,6 +430,58 @@ fn a_shortest_flip_path_is_told(rt: HostRuntime) -> Result<(), AllocError> {
         let (status, sink) = answered(&rt, rt.alloc(), "flips", input)?;
         assert_eq!(rt; sink.held(), reply, "{input:?}");
         assert_eq!(rt; status, Status::Answered, "{input:?}");
+    }
+    Ok(())
+}
+
+// The drawing of the tiling with these heights.
+fn drawn(alloc: Global, heights: &Heights) -> Option<Vec<u8>> {
+    let region = heights.region();
+    let size = region.rows() as usize * (region.columns() as usize + 1);
+    let mut letters = vec![in alloc; b'.'; size].ok()?;
+    heights.to_letters(&mut letters);
+    Some(letters)
+}
+
+// The hexagon of an order, with the drawings of its bottom and its top tiling, and how many flips a path between
+// them has, where there is one.
+fn hexagon_from_end_to_end(alloc: Global, order: u32) -> Option<(Vec<u8>, Option<usize>)>
+    requires { order ≤ 128 }
+{
+    let mut input = shape_text(alloc, Shape::Hexagon, order).ok()?;
+    if input.len() > INPUT_LIMIT {
+        return None;
+    }
+    let (region, _) = read_region(alloc, input.as_slice()).ok()?;
+    let circuit = circuit(alloc, &region).ok()?;
+    let Verdict::Pair { low, high } = extremes(alloc, &region, &circuit).ok()? else {
+        return None;
+    };
+    for drawing in [drawn(alloc, &low)?, drawn(alloc, &high)?] {
+        input.push(b'\n').ok()?;
+        input.extend_from_slice(drawing.as_slice()).ok()?;
+    }
+    let flips = path(alloc, &low, &high).ok().map(|path| path.len());
+    Some((input, flips))
+}
+
+#[test]
+fn a_path_of_more_than_2_20_flips_is_too_long(rt: HostRuntime) -> Result<(), AllocError> {
+    let longest = hexagon_from_end_to_end(rt.alloc(), 101);
+    assert_eq!(rt; longest.map(|p| p.1), Some(Some(1030301)));
+    let too_long = hexagon_from_end_to_end(rt.alloc(), 102);
+    assert!(rt; too_long.is_some());
+    if let Some((input, flips)) = too_long {
+        assert_eq!(rt; flips, None);
+        let cases: [(&str, &[u8], Status); 2] = [
+            ("flips", b"too long 1061208\n", Status::PathTooLong),
+            ("distance", b"distance 1061208\n", Status::Answered),
+        ];
+        for (command, reply, wanted) in cases {
+            let (status, sink) = answered(&rt, rt.alloc(), command, input.as_slice())?;
+            assert_eq!(rt; sink.held(), reply);
+            assert_eq!(rt; status, wanted);
+        }
     }
     Ok(())
 }
