@@ -1,6 +1,7 @@
 -- A ring of 128 words: word n of a stream has the place n mod 128. It holds any 128 words in a row.
-use Rattle.std.specs.Prelude.{◌≡◌, ℕ, ◌+◌, ◌*◌, ◌%◌, ◌<◌, ◌≤◌, List, slice_index}
+use Rattle.std.specs.Prelude.{◌≡◌, ◌^◌, ℕ, ◌+◌, ◌*◌, ◌%◌, ◌<◌, ◌≤◌, List, slice_index}
 use Rattle.rand_chacha.specs.ChaCha.{ChaCha, word_at}
+use Rattle.tl_bits.specs.declared.stream.Held.{Held}
 
 -- these are the next 16 words of a generator
 pub record IsBlock (g : ChaCha) (words : List ℕ) : Type 0 where
@@ -19,3 +20,10 @@ pub record PutsBlock (old new : List ℕ) (number : ℕ) (words : List ℕ) : Ty
 pub record PutsWords (k : List ℕ) (stream : ℕ) (old new : List ℕ) (low high : ℕ) : Type 0 where
   pub put : HoldsWords k stream new low high
   pub left : (n : ℕ) → high ≤ n → n < low + 128 → slice_index new (n % 128) ≡ slice_index old (n % 128)
+
+-- what a ring of 128 words may have: the words of whole blocks, four at a time
+pub record IsHeld (held : Held) : Type 0 where
+  pub aligned : held.first % 16 ≡ 0
+  pub bound : held.first < 2 ^ 48
+  pub whole : held.count % 64 ≡ 0
+  pub within : held.count ≤ 128

@@ -23,7 +23,8 @@ impl Model for Numbered {
 }
 
 impl Numbered {
-    /// The words of sample number `sample` of `seed`, `words` of them to each time. The first 128 are computed.
+    /// The words of sample number `sample` of `seed`, `words` of them to each time. None is computed before it is
+    /// asked for.
     pub fn new(seed: u64, sample: u32, words: u32) -> Numbered
         ensures { result ≡ record { seed = seed; sample = sample; words = words } }
     {

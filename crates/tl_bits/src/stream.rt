@@ -1,8 +1,8 @@
 // The stream of words of one seed and one sample, read at any place.
 
-ghost use Rattle.std.specs.Prelude.{◌≡◌, ◌+◌, ◌*◌, ◌%◌, ◌^◌, ◌<◌, ◌≤◌};
+ghost use Rattle.std.specs.Prelude.{◌≡◌, ◌+◌, ◌*◌, ◌^◌, ◌<◌, ◌≤◌};
 ghost use Rattle.tl_bits.specs.Bits.{key, word};
-ghost use Rattle.tl_bits.specs.Ring.{HoldsWords, IsBlock, PutsBlock, PutsWords};
+ghost use Rattle.tl_bits.specs.Ring.{HoldsWords, IsBlock, IsHeld, PutsBlock, PutsWords};
 
 use rand_chacha::ChaCha20Rng;
 use rand_core::SeedableRng;
@@ -77,41 +77,56 @@ fn put_blocks(generator: &mut ChaCha20Rng, ring: &mut [u32; 128], number: u64)
     put_block(ring, number + 3, &fourth);
 }
 
-// Moves a ring that has the words from `first` on so that it has word `k`, and gives its new first word. Times
-// are read in runs, and mostly from a late time to an early one, so the ring goes by four blocks either way:
-// runs of up to 64 words that follow one another, upwards or downwards, cost each block once.
-fn move_ring(generator: &mut ChaCha20Rng, ring: &mut [u32; 128], first: u64, k: u64) -> u64
-    requires held { HoldsWords generator.old.key generator.old.stream ring.old first (first + 128) }
-    requires aligned { first % 16 ≡ 0 }
-    requires bound { first < 2 ^ 48 }
+// The words that a ring has: so many, from the first word of a block on. It begins with none, and then has those of four
+// or of eight blocks.
+#[derive(Clone, Copy)]
+struct Held {
+    first: u64,
+    count: u64,
+}
+
+// Moves a ring that has these words so that it has word `k`, and tells what it has then. Times are read in runs, and
+// mostly from a late time to an early one, so the ring goes by four blocks either way: runs of up to 64 words that follow
+// one another, upwards or downwards, cost each block once.
+fn move_ring(generator: &mut ChaCha20Rng, ring: &mut [u32; 128], held: Held, k: u64) -> Held
+    requires held { HoldsWords generator.old.key generator.old.stream ring.old held.first (held.first + held.count) }
+    requires shape { IsHeld held }
     requires near { k < 2 ^ 48 }
-    ensures held { HoldsWords generator.old.key generator.old.stream ring.new result (result + 128) }
-    ensures aligned { result % 16 ≡ 0 }
-    ensures bound { result < 2 ^ 48 }
-    ensures begins { result ≤ k }
-    ensures ends { k < result + 128 }
+    ensures held { HoldsWords generator.old.key generator.old.stream ring.new result.first (result.first + result.count) }
+    ensures shape { IsHeld result }
+    ensures begins { result.first ≤ k }
+    ensures ends { k < result.first + result.count }
     ensures key { generator.new.key ≡ generator.old.key }
     ensures stream { generator.new.stream ≡ generator.old.stream }
 {
-    if first + 128 <= k && k < first + 192 {
-        put_blocks(generator, ring, first / 16 + 8);
-        return first + 64;
+    let end = held.first + held.count;
+    if held.count > 0 && end <= k && k < end + 64 {
+        put_blocks(generator, ring, end / 16);
+        return Held {
+            first: end - 64,
+            count: 128,
+        };
     }
-    if k < first && first <= k + 64 && 64 <= first {
-        put_blocks(generator, ring, first / 16 - 4);
-        return first - 64;
+    if held.count > 0 && k < held.first && held.first <= k + 64 && 64 <= held.first {
+        put_blocks(generator, ring, held.first / 16 - 4);
+        return Held {
+            first: held.first - 64,
+            count: 128,
+        };
     }
-    let number = k / 16;
+    // with the blocks below, since times are read downwards
+    let number = (k / 16).saturating_sub(3);
     put_blocks(generator, ring, number);
-    put_blocks(generator, ring, number + 4);
-    16 * number
+    Held {
+        first: 16 * number,
+        count: 64,
+    }
 }
 
 #[derive(Drop)]
 pub(crate) struct WordStream {
     generator: ChaCha20Rng,
-    // The ring has the words from this one on, which is the first of a block.
-    first: u64,
+    held: Held,
     ring: [u32; 128],
 }
 
@@ -131,14 +146,10 @@ impl WordStream {
     pub(crate) fn new(seed: u64, sample: u32) -> WordStream
         ensures { result ≡ record { seed = seed; sample = sample } }
     {
-        let mut generator = generator(seed, sample);
-        let mut ring = [0; 128];
-        put_blocks(&mut generator, &mut ring, 0);
-        put_blocks(&mut generator, &mut ring, 4);
         WordStream {
-            generator,
-            first: 0,
-            ring,
+            generator: generator(seed, sample),
+            held: Held { first: 0, count: 0 },
+            ring: [0; 128],
         }
     }
 
@@ -149,7 +160,7 @@ impl WordStream {
         ensures value { result ≡ word self.old.seed self.old.sample k }
         ensures same { self.new ≡ self.old }
     {
-        if k.wrapping_sub(self.first) < 128 {
+        if k.wrapping_sub(self.held.first) < self.held.count {
             self.ring[(k % 128) as usize]
         } else {
             self.load(k)
@@ -164,7 +175,7 @@ impl WordStream {
         ensures value { result ≡ word self.old.seed self.old.sample k }
         ensures same { self.new ≡ self.old }
     {
-        self.first = move_ring(&mut self.generator, &mut self.ring, self.first, k);
+        self.held = move_ring(&mut self.generator, &mut self.ring, self.held, k);
         self.ring[(k % 128) as usize]
     }
 }
