@@ -1,7 +1,7 @@
 -- The numbers that bits choose, four places at a time.
-use Rattle.std.proofs.Common.{◌≡◌, ℕ, ◌+◌, ◌-◌, ◌/◌, ◌%◌, ◌^◌, ◌<◌, ◌≤◌, ◌==◌, ℤ, pos, List, ◌++◌, cond, ap, sym, ◌∙◌, ⊎_elim, length, get_or, take, drop, subst, arith}
+use Rattle.std.proofs.Common.{◌≡◌, ℕ, ◌+◌, ◌-◌, ◌/◌, ◌%◌, ◌^◌, ◌<◌, ◌≤◌, ◌==◌, ℤ, pos, List, ◌++◌, cond, ap, sym, ◌∙◌, ⊎_elim, length, get_or, take, drop, set, subst, arith}
 use Rattle.std.proofs.lemmas.Bool.{cases_lt}
-use Rattle.std.proofs.lemmas.List.{get_or_append_left, get_or-append-add, get_or-take, length-take-le}
+use Rattle.std.proofs.lemmas.List.{get_or_append_left, get_or-append-add, get_or-set_other, get_or-set_same, get_or-take, length-take-le}
 use Rattle.std.proofs.lemmas.Nat.{pow-add}
 use Rattle.std.proofs.lemmas.Simd.{get_or-chunk}
 use Rattle.std.proofs.Math.Nat.{div-div-eq-div-mul}
@@ -9,7 +9,7 @@ use Rattle.std.specs.Int.{bit_at}
 use borrow.Rule.Slice.PartMut.{put_mid, post_of}
 use Rattle.tl_lanes.specs.Lanes.{by_bit, chosen}
 
-bit_at-shifted : (n s i : ℕ) → bit_at (n / 2 ^ s) i ≡ bit_at n (s + i)
+pub bit_at-shifted : (n s i : ℕ) → bit_at (n / 2 ^ s) i ≡ bit_at n (s + i)
 bit_at-shifted n s i = ap (λ m. m % 2) (div-div-eq-div-mul n (2 ^ s) (2 ^ i) ∙ ap (λ m. n / m) (sym (pow-add 2 s i)))
 
 -- a place of a part: the bits from the part's first place on tell of it
@@ -43,4 +43,14 @@ placed-part i k n out new f inside long before part j within =
     let sum : i + (j - i) ≡ j = omega arith in
     subst (λ p. get_or (put_mid i k out new) p (pos 0) ≡ f p) sum
     (get_or-put_mid_at i k out new (j - i) (pos 0) inside (omega arith) ∙ part (j - i) (omega arith)))
+    (cases_lt j i)
+
+-- a place more that is as it should be
+pub placed-next : (i : ℕ) (out : List ℤ) (z : ℤ) (f : ℕ → ℤ) → i < length out → z ≡ f i → ((j : ℕ) → j < i → get_or out j (pos 0) ≡ f j)
+    → (j : ℕ) → j < i + 1 → get_or (set out i z) j (pos 0) ≡ f j
+placed-next i out z f inside at before j within =
+    ⊎_elim (λ below. get_or-set_other out i j z (pos 0) (λ same. omega (arith, same)) ∙ before j below)
+    (λ above.
+    let here : j ≡ i = omega arith in
+    ap (λ k. get_or (set out i z) k (pos 0)) here ∙ get_or-set_same out i z (pos 0) inside ∙ at ∙ ap f (sym here))
     (cases_lt j i)

@@ -27,12 +27,12 @@ lower ys zs = map (to_z w32) (sel_l (map (top 31) (zip2 less (map (of_z w32) ys)
 abbrev upper : List ℤ → List ℤ → List ℤ
 upper ys zs = map (to_z w32) (sel_l (map (top 31) (zip2 less (map (of_z w32) ys) (map (of_z w32) zs))) (map (of_z w32) zs) (map (of_z w32) ys))
 
-lower-lesser : (ys zs : List ℤ) → Each1 (SFits w32) ys → Each1 (SFits w32) zs → lower ys zs ≡ zip2 lesser ys zs
+pub lower-lesser : (ys zs : List ℤ) → Each1 (SFits w32) ys → Each1 (SFits w32) zs → lower ys zs ≡ zip2 lesser ys zs
 lower-lesser [] zs f g = refl
 lower-lesser (y ∷ ys) [] f g = refl
 lower-lesser (y ∷ ys) (z ∷ zs) f g = λ i. lesser-lane y z f.0 g.0 i ∷ lower-lesser ys zs f.1 g.1 i
 
-upper-greater : (ys zs : List ℤ) → Each1 (SFits w32) ys → Each1 (SFits w32) zs → upper ys zs ≡ zip2 greater ys zs
+pub upper-greater : (ys zs : List ℤ) → Each1 (SFits w32) ys → Each1 (SFits w32) zs → upper ys zs ≡ zip2 greater ys zs
 upper-greater [] zs f g = refl
 upper-greater (y ∷ ys) [] f g = refl
 upper-greater (y ∷ ys) (z ∷ zs) f g = λ i. greater-lane y z f.0 g.0 i ∷ upper-greater ys zs f.1 g.1 i
@@ -71,7 +71,7 @@ masked-test (suc (suc b)) m p small some is = absurd (omega arith)
 masked-bit : (n k : ℕ) → masked n (2 ^ k) ≡ (bit_at n k == 1)
 masked-bit n k = masked-test (bit_at n k) (bit_and n (2 ^ k)) (2 ^ k) (bit_at-lt n k) (pow_pos k) (and_pow n k)
 
-four_bits-bit : (n j : ℕ) → j < 4 → get_or (four_bits n) j false ≡ (bit_at n j == 1)
+pub four_bits-bit : (n j : ℕ) → j < 4 → get_or (four_bits n) j false ≡ (bit_at n j == 1)
 four_bits-bit n zero h = masked-bit n 0
 four_bits-bit n (suc zero) h = masked-bit n 1
 four_bits-bit n (suc (suc zero)) h = masked-bit n 2
@@ -92,7 +92,7 @@ by_test : (b : Bool) (y z : ℤ) → SFits w32 y → SFits w32 z → to_z w32 (c
 by_test true y z f g = to_z-of_z w32 y f
 by_test false y z f g = to_z-of_z w32 z g
 
-get_or-by_tests : (bs : List Bool) (hs ls : List ℤ) (j : ℕ) → length bs ≡ length hs → length bs ≡ length ls → j < length bs → Each1 (SFits w32) hs → Each1 (SFits w32) ls
+pub get_or-by_tests : (bs : List Bool) (hs ls : List ℤ) (j : ℕ) → length bs ≡ length hs → length bs ≡ length ls → j < length bs → Each1 (SFits w32) hs → Each1 (SFits w32) ls
     → get_or (by_tests bs hs ls) j (pos 0) ≡ cond (get_or bs j false) (get_or hs j (pos 0)) (get_or ls j (pos 0))
 get_or-by_tests [] hs ls j p q within f g = absurd (omega arith)
 get_or-by_tests (b ∷ bs) [] ls j p q within f g = absurd (omega arith)

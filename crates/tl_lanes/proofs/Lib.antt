@@ -1,3 +1,5 @@
 pub mod Choices
 pub mod Lanes
 pub mod Rows
+pub mod Steps
+pub mod OverUnder

@@ -76,7 +76,7 @@ fn blend_block(out: &mut [i32], low: &[i32], high: &[i32], bits: u32)
 
 // By the lowest bit.
 #[inline]
-fn choose(low: i32, high: i32, bits: u32) -> i32
+pub(crate) fn choose(low: i32, high: i32, bits: u32) -> i32
     ensures { result ≡ (if bits % 2 == 1 then high else low) }
 {
     if bits & 1 == 1 { high } else { low }

@@ -8,12 +8,14 @@ ghost use Rattle.std.specs.Simd.Lanes.{Each1};
 
 mod blend;
 mod order;
+mod step;
 #[cfg(test)]
 mod tests;
 
 pub use blend::lanes_blend;
 pub use order::{lanes_greatest, lanes_least};
 use std::simd::prelude::*;
+pub use step::{Beside, lanes_step};
 
 // The places of one vector.
 const LANES: usize = 4;

@@ -2,7 +2,7 @@
 
 ghost use Rattle.std.specs.Prelude.{◌≤◌};
 
-use crate::{lanes_blend, lanes_greatest, lanes_least};
+use crate::{Beside, lanes_blend, lanes_greatest, lanes_least, lanes_step};
 
 const LENGTHS: [usize; 6] = [0, 1, 7, 8, 9, 33];
 
@@ -62,4 +62,18 @@ fn a_choice_by_each_bit(rt: HostRuntime) {
             word /= 2;
         }
     }
+}
+
+// The places 0, 2, 3 and 4 are of the class, and the bits of 2 and 4 are 1.
+#[test]
+fn steps_at_four_of_five_places(rt: HostRuntime) {
+    let mut out = [0; 5];
+    let beside = Beside {
+        from: &[1, 5, 2, 8, 3],
+        from_other: &[4, 2, 6, 1, 9],
+        to: &[-1, -5, 0, 3, 2],
+        to_other: &[-2, 0, -4, 5, -3],
+    };
+    lanes_step(&mut out, &[7; 5], &beside, 0b10110, 0b11101);
+    assert_eq!(rt; out, [-2, 7, 3, 4, 4]);
 }
