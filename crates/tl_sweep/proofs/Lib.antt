@@ -1,0 +1,12 @@
+mod SomeCorners
+mod Puts
+mod Parts
+mod BlockCorners
+mod Values
+mod Bits
+mod Rows
+mod Apart
+mod KindParts
+mod Turns
+mod Sixths
+mod PutSteps
