@@ -1,0 +1,3 @@
+pub mod FewWords
+pub mod ReadWords
+pub mod Samples

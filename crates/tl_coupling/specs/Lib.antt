@@ -1,0 +1,4 @@
+pub mod Carried
+pub mod SweptNumbers
+pub mod Laws
+pub mod Drawn
