@@ -1,0 +1,3 @@
+pub mod Layouts
+pub mod Coins
+pub mod Slots

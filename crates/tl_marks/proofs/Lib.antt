@@ -1,0 +1,8 @@
+pub mod Stated
+mod Halves
+mod Bases
+mod Crossed
+mod Told
+mod Standing
+mod Stepped
+mod Examples

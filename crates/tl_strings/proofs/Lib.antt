@@ -1,0 +1,4 @@
+pub mod Stated
+pub mod Bits
+pub mod Places
+pub mod Swept

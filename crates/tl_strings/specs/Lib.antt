@@ -1,0 +1,4 @@
+pub mod Strings
+pub mod Steps
+pub mod Words
+pub mod Swept
