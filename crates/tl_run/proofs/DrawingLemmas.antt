@@ -31,7 +31,7 @@ OfDrawing-weaker refused R bytes P Q a f p = go (drawing_refusal R (further_sect
     go None (A, d, q) = (A, d, f A (further_section bytes).rest q)
     go (Some r) e = e
 
-AtEnd-weaker : (bytes : List ℕ) (P Q : Allows) (a : Answer) → (P a → Q a) → AtEnd bytes P a → AtEnd bytes Q a
+pub AtEnd-weaker : (bytes : List ℕ) (P Q : Allows) (a : Answer) → (P a → Q a) → AtEnd bytes P a → AtEnd bytes Q a
 AtEnd-weaker bytes P Q a f p = go (rest_is_empty bytes) p
   where
     go : (b : Bool) → MatchBool b (P a) (Is extra_text a) → MatchBool b (Q a) (Is extra_text a)

@@ -6,4 +6,11 @@ mod DrawingLemmas
 mod FlipLemmas
 mod CheckLemmas
 mod StopLemmas
+mod PieceLemmas
+mod PieceExamples
+mod SampleLemmas
+mod SummaryLemmas
+mod RangeLemmas
+mod OneReply
+mod SampleExamples
 mod RunExamples

@@ -1,22 +1,30 @@
 -- The statuses of what each command is answered with: a line for each.
-use Rattle.std.proofs.Common.{ℕ, ◌<◌, Bool, true, false, List, length, refl, inl, inr}
-use Rattle.std.specs.Prelude.{nat_lt, if◌then◌else◌}
-use Rattle.tl_definitions.specs.declared.Corner.{Corner}
+use Rattle.std.proofs.Common.{◌≡◌, ℕ, Bool, true, false, List, [], ◌++◌, length, refl, inl, inr}
+use Rattle.std.specs.Prelude.{nat_lt, if◌then◌else◌, MatchBool}
+use Rattle.std.specs.List.{list_any}
 use Rattle.tl_definitions.specs.declared.Tile.{Tile}
 use Rattle.tl_definitions.specs.Region.{Region}
 use Rattle.tl_definitions.specs.Obstruction.{Obstruction}
 use Rattle.tl_text.specs.declared.Command.{Command}
+use Rattle.tl_text.specs.Shapes.{shape_text}
+use Rattle.tl_text.specs.declared.GenJob.{GenJob}
+use Rattle.tl_text.specs.declared.SampleJob.{SampleJob}
 use Rattle.tl_text.specs.declared.Command.TheVariants.{Check, Decide, Refute, Flips, Distance, Sample, Gen}
 use Rattle.tl_flip.specs.declared.shortest.TheConstants.{FLIP_LIMIT}
 use Rattle.tl_formats.specs.Drawing.{DrawingRefusal, bad_letter, unmatched}
 use Rattle.tl_run.specs.Answers.{Answer, answer, Allows, Is}
-use Rattle.tl_run.specs.Refusals.{usage, check_refused, drawing_refused}
+use Rattle.tl_run.specs.Refusals.{check_refused, drawing_refused}
 use Rattle.tl_run.specs.Readers.{OfDrawing, AtEnd}
 use Rattle.tl_run.specs.Check.{yes, DrawingReply, CheckReply}
 use Rattle.tl_run.specs.Decide.{tiled, blocked, Decided, RegionReply, DecideReply}
 use Rattle.tl_run.specs.Flips.{TwoDrawings, flips_text, too_long, told_path, IsPathAnswer, FlipsReply, told_distance, IsDistanceAnswer, DistanceReply}
 use Rattle.tl_run.specs.Refute.{refuted, not_refuted, Judged, ReasonReply, RefuteReply}
-use Rattle.tl_run.specs.Replies.{meaning_of, Answers}
+use Rattle.tl_run.specs.declared.sample.TheConstants.{SAMPLES_LIMIT}
+use Rattle.tl_run.specs.Samples.{DrawnPieces, samples_size, too_large as samples_too_large, WithinLimit, OfSampled, Sampled, SampleReply}
+use Rattle.tl_run.specs.Generate.{ShapeReply, GenReply}
+use Rattle.tl_run.specs.Pieces.{Pieces, IsInPieces, pieces_text, told_pieces}
+use Rattle.tl_run.specs.Summary.{counts_text, reason_line, RankedPieces, Summarized, SummaryReply}
+use Rattle.tl_run.specs.Replies.{meaning_of, reads_input, Answers}
 use Rattle.tl_run.proofs.ReaderLemmas.{IsHeard, Is-heard, OfInput-heard, OfRegion-heard, OfDrawing-heard, OfObstruction-heard, AtEnd-heard}
 
 -- ---- check
@@ -82,7 +90,55 @@ DistanceReply-heard input a =
     OfRegion-heard input (λ R rest. TwoDrawings R rest (IsDistanceAnswer R)) a
     (λ R rest. TwoDrawings-heard R rest (IsDistanceAnswer R) a (λ A B. IsDistanceAnswer-heard R A B a))
 
+-- ---- sample
+
+OfSampled-heard : (job : SampleJob) (text : List ℕ) (P : Region → Allows) (a : Answer) → ((R : Region) → P R a → IsHeard a) → OfSampled job text P a → IsHeard a
+OfSampled-heard job text P a next =
+    OfRegion-heard text (λ R rest. AtEnd rest (WithinLimit R job (P R))) a
+    (λ R rest. AtEnd-heard rest (WithinLimit R job (P R)) a (go R (nat_lt SAMPLES_LIMIT (samples_size R job))))
+  where
+    go : (R : Region) (b : Bool) → MatchBool b (Is (samples_too_large (samples_size R job)) a) (P R a) → IsHeard a
+    go R true e = Is-heard (samples_too_large (samples_size R job)) a refl e
+    go R false q = next R q
+
+IsInPieces-heard : (P : Pieces) (head : List ℕ) (count : ℕ) (a : Answer) → IsInPieces P head count a → IsHeard a
+IsInPieces-heard P head count a s = Is-heard (told_pieces head s.pieces) a (go (list_any (λ p. p.is_late) s.pieces)) s.is
+  where
+    go : (b : Bool) → IsHeard (answer (head ++ pieces_text s.pieces) (if b then 7 else 0))
+    go true = refl
+    go false = refl
+
+Sampled-heard : (R : Region) (job : SampleJob) (a : Answer) → Sampled R job a → IsHeard a
+Sampled-heard R job a (inl (some, s)) = IsInPieces-heard (DrawnPieces R job) [] job.count a s
+Sampled-heard R job a (inr (o, reason, e)) = Is-heard (blocked o) a refl e
+
+SampleReply-heard : (job : SampleJob) (input : List ℕ) (a : Answer) → SampleReply job input a → IsHeard a
+SampleReply-heard job input a = OfSampled-heard job input (λ R. Sampled R job) a (λ R. Sampled-heard R job a)
+
+-- ---- gen
+
+Summarized-heard : (R : Region) (job : SampleJob) (a : Answer) → Summarized R job a → IsHeard a
+Summarized-heard R job a (inl (head, is, s)) = IsInPieces-heard (RankedPieces R job) head job.count a s
+Summarized-heard R job a (inr (o, reason, e)) = Is-heard (answer (counts_text R ++ reason_line o) 1) a refl e
+
+GenReply-heard : (gen : GenJob) (a : Answer) → GenReply gen a → IsHeard a
+GenReply-heard gen a = go gen.summary
+  where
+    go : (b : Bool) → MatchBool b (SummaryReply gen a) (ShapeReply gen a) → IsHeard a
+    go true p = OfSampled-heard gen.job (shape_text gen.shape gen.order) (λ R. Summarized R gen.job) a (λ R. Summarized-heard R gen.job a) p
+    go false p = Is-heard (answer (shape_text gen.shape gen.order) 0) a refl p
+
 -- ---- all commands
+
+-- every command but `gen` reads its input
+pub reads-unless_gen : (c : Command) → ((gen : GenJob) → c ≡ Gen gen → ⊥) → reads_input (meaning_of c) ≡ true
+reads-unless_gen Check other = refl
+reads-unless_gen Decide other = refl
+reads-unless_gen Refute other = refl
+reads-unless_gen Flips other = refl
+reads-unless_gen Distance other = refl
+reads-unless_gen (Sample job) other = refl
+reads-unless_gen (Gen gen) other = absurd (other gen refl)
 
 -- no command is answered with the status of a failed read
 pub Answers-heard : (c : Command) (input : List ℕ) (a : Answer) → Answers (meaning_of c) input a → IsHeard a
@@ -91,5 +147,5 @@ Answers-heard Decide input a = OfInput-heard input (DecideReply input) a (Decide
 Answers-heard Refute input a = OfInput-heard input (RefuteReply input) a (RefuteReply-heard input a)
 Answers-heard Flips input a = OfInput-heard input (FlipsReply input) a (FlipsReply-heard input a)
 Answers-heard Distance input a = OfInput-heard input (DistanceReply input) a (DistanceReply-heard input a)
-Answers-heard (Sample job) input a = Is-heard usage a refl
-Answers-heard (Gen gen) input a = Is-heard usage a refl
+Answers-heard (Sample job) input a = OfInput-heard input (SampleReply job input) a (SampleReply-heard job input a)
+Answers-heard (Gen gen) input a = GenReply-heard gen a

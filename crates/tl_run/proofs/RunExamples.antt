@@ -7,9 +7,11 @@ use Rattle.tl_run.specs.Answers.{Answer, answer, Is, Says}
 use Rattle.tl_run.specs.Refusals.{usage, usage_text}
 use Rattle.tl_run.specs.Reading.{Reading}
 use Rattle.tl_run.specs.Writing.{Writing}
+use Rattle.tl_run.specs.Replies.{asked}
 use Rattle.tl_run.specs.Runs.{IsRun}
-use Rattle.tl_run.proofs.RunLemmas.{runs-usage}
-use Rattle.tl_run.proofs.WritingLemmas.{Appends-more, Writing-whole, Writing-cut}
+use Rattle.tl_run.proofs.ReaderLemmas.{Is-heard}
+use Rattle.tl_run.proofs.RunLemmas.{runs-unasked}
+use Rattle.tl_run.proofs.WritingLemmas.{Appends-more, Cuts-second, Writing-whole, Writing-cut}
 
 abbrev left_of : Option (List ℕ) → List ℕ
 left_of known = unwrap_or known []
@@ -22,7 +24,7 @@ told held faults = record { held = Some held; faults = faults }
 
 -- no words: the usage, and the source as it was
 no_words : IsRun [] unread unread (told [] 0) (told usage_text 0) 2
-no_words = runs-usage _ true unread (told [] 0) (told usage_text 0) 2 tt (Writing-whole (Is usage) true usage_text (told [] 0) (told usage_text 0) 2 (record { held = refl; steady = refl }) refl refl)
+no_words = runs-unasked (asked []) true unread (told [] 0) (told usage_text 0) 2 refl (λ a. Is-heard usage a refl) (Writing-whole (Is usage) true usage_text (told [] 0) (told usage_text 0) 2 (record { held = refl; steady = refl }) refl refl)
 
 -- the same, with another status, with another text, or with a byte read
 no_words-answered : IsRun [] unread unread (told [] 0) (told usage_text 0) 0 → ⊥
@@ -55,8 +57,10 @@ two_pieces =
 
 cut_piece : Writing (Says (codes "abcd") 0) false (told [] 0) (told (codes "abc") 1) 5
 cut_piece =
-    Writing-cut (Says (codes "abcd") 0) false (codes "ab") (codes "cd") (told [] 0) (told (codes "ab") 0) (told (codes "abc") 1) (record { held = refl; steady = refl })
-    (record { part = codes "c"; is_prefix = (codes "d", refl); appended = refl }) (omega arith) (answer (codes "abcd") 0, refl, ([], refl))
+    Writing-cut (Says (codes "abcd") 0) false (codes "ab" ++ codes "cd") (told [] 0) (told (codes "abc") 1)
+    (Cuts-second (codes "ab") (codes "cd") (told [] 0) (told (codes "ab") 0) (told (codes "abc") 1) (record { held = refl; steady = refl })
+    (record { part = record { part = codes "c"; is_prefix = (codes "d", refl); appended = refl }; rose = omega arith }))
+    (answer (codes "abcd") 0, refl, ([], refl))
 
 -- a write that failed and isn't told, and another text that begins otherwise
 untold_cut : Writing (Says (codes "abcd") 0) false (told [] 0) (told (codes "abcd") 1) 0 → ⊥

@@ -7,8 +7,8 @@ use Rattle.tl_io.specs.States.{SourceState, SinkState}
 use Rattle.tl_io.proofs.Known.{append_known-nil}
 use Rattle.tl_formats.specs.declared.TheConstants.{INPUT_LIMIT}
 use Rattle.tl_run.specs.Answers.{Answer, answer, Allows, Is, is_whole}
-use Rattle.tl_run.specs.Refusals.{usage, read_fault, input_too_long}
-use Rattle.tl_run.specs.Replies.{Meaning, Absent, WithoutInput, ByInput, reads_input, Answers, IsAbsent}
+use Rattle.tl_run.specs.Refusals.{read_fault, input_too_long}
+use Rattle.tl_run.specs.Replies.{Meaning, WithoutInput, ByInput, reads_input, Answers}
 use Rattle.tl_run.specs.Reading.{FailsEarly, read_fault_status}
 use Rattle.tl_run.specs.Writing.{Writing}
 use Rattle.tl_run.specs.Runs.{RunAnswers, Runs}
@@ -52,25 +52,32 @@ heard-status P silent sink sink' status heard w e =
 
 -- ---- runs
 
--- nothing was read, and the usage was written
-pub runs-usage : (m : Meaning) (silent : Bool) (source : SourceState) (sink sink' : SinkState) (status : ℕ) → IsAbsent m
-    → Writing (Is usage) true sink sink' status → Runs m silent source source sink sink' status
-runs-usage Absent silent source sink sink' status absent w = record {
+-- nothing was read, and what needs no input was answered
+pub runs-unasked : (m : Meaning) (silent : Bool) (source : SourceState) (sink sink' : SinkState) (status : ℕ) → reads_input m ≡ false
+    → ((a : Answer) → Answers m [] a → IsHeard a) → Writing (Answers m []) true sink sink' status → Runs m silent source source sink sink' status
+runs-unasked m silent source sink sink' status unread heard w = record {
   came = [];
   left = left_of source.left;
   reading = record {
     came_is = prepend_known-nil source.left;
     left_is = left-is source.left;
     nothing = λ e. refl;
-    all = λ h. cc h;
-    failed = λ e. absurd (heard-status (Is usage) true sink sink' status (λ a u. ap (λ (b : Answer). b.status == read_fault_status) u) w e);
+    all = λ h. cc (unread, and_left (reads_input m) (is_whole status) (not (status == read_fault_status)) h);
+    failed = λ e. absurd (heard-status (Answers m []) true sink sink' status heard w e);
     steady = λ h. refl;
   };
-  writing = Writing-weaker (Is usage) _ silent sink sink' status
-      (λ a u. RunAnswers-heard Absent (left_of source.left) _ a (ap (λ (b : Answer). b.status == read_fault_status) u) u) w;
+  writing = Writing-weaker (Answers m []) _ silent sink sink' status
+      (λ a p. RunAnswers-heard m (left_of source.left) _ a (heard a p) (anywhere m unread a p)) w;
 }
-runs-usage (WithoutInput P) silent source sink sink' status absent w = absurd absent
-runs-usage (ByInput P) silent source sink sink' status absent w = absurd absent
+  where
+    and_left : (a b c : Bool) → (a && b && c) ≡ true → a ≡ true
+    and_left true b c e = refl
+    and_left false true c e = cc e
+    and_left false false c e = cc e
+
+    anywhere : (m : Meaning) → reads_input m ≡ false → (a : Answer) → Answers m [] a → Answers m (left_of source.left) a
+    anywhere (WithoutInput P) e a p = p
+    anywhere (ByInput P) e a p = cc e
 
 -- the whole input was read, and answered
 pub runs-input : (m : Meaning) (silent : Bool) (source source' : SourceState) (sink sink' : SinkState) (status : ℕ) (bytes : List ℕ) → reads_input m ≡ true
@@ -108,7 +115,6 @@ runs-input m silent source source' sink sink' status bytes reads came end steady
 pub runs-long : (m : Meaning) (silent : Bool) (source source' : SourceState) (sink sink' : SinkState) (status : ℕ) (bytes : List ℕ) → reads_input m ≡ true
     → source.left ≡ prepend_known bytes source'.left → length bytes ≡ INPUT_LIMIT + 1 → source'.faults ≡ source.faults
     → Writing (Is input_too_long) true sink sink' status → Runs m silent source source' sink sink' status
-runs-long Absent silent source source' sink sink' status bytes reads came long steady w = cc reads
 runs-long (WithoutInput P) silent source source' sink sink' status bytes reads came long steady w = cc reads
 runs-long (ByInput P) silent source source' sink sink' status bytes reads came long steady w =
     let longer : INPUT_LIMIT < length (bytes ++ left_of source'.left) = omega (arith, long, length-append bytes (left_of source'.left)) in

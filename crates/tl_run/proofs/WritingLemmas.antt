@@ -3,10 +3,9 @@ use Rattle.std.proofs.Common.{◌≡◌, inl, inr, ℕ, Bool, true, false, List,
 use Rattle.std.specs.Io.KnownBytes.{append_known}
 use Rattle.tl_io.specs.Counts.{Rose}
 use Rattle.tl_io.specs.States.{SinkState}
-use Rattle.tl_io.specs.Writes.{AppendsPart}
 use Rattle.tl_io.proofs.Known.{append_known-nil, append_known-append}
 use Rattle.tl_run.specs.Answers.{Answer, answer, Allows, Is, is_whole}
-use Rattle.tl_run.specs.Writing.{Appends, Begins, Writing}
+use Rattle.tl_run.specs.Writing.{Appends, Begins, Cuts, Writing}
 
 pub Begins-weaker : (P Q : Allows) (out : List ℕ) → ((a : Answer) → P a → Q a) → Begins P out → Begins Q out
 Begins-weaker P Q out f (a, p, r) = (a, f a p, r)
@@ -54,27 +53,46 @@ Writing-whole P silent out sink sink' status written whole p = record {
   silence = λ e h. cc (whole, ap is_whole e);
 }
 
--- a write failed after all before it, and what it was to write goes on as an allowed text does
-pub Writing-cut : (P : Allows) (silent : Bool) (out more : List ℕ) (sink mid sink' : SinkState) → Appends out sink mid → AppendsPart mid.held sink'.held more
-    → Rose mid.faults sink'.faults → Begins P (out ++ more) → Writing P silent sink sink' 5
-Writing-cut P silent out more sink mid sink' written part rose (a, p, (rest, is)) =
-    let (tail, whole) = part.is_prefix in
+-- a write failed, and more was to follow
+pub Cuts-first : (bytes more : List ℕ) (sink sink' : SinkState) → Cuts bytes sink sink' → Cuts (bytes ++ more) sink sink'
+Cuts-first bytes more sink sink' c =
+    let (tail, whole) = c.part.is_prefix in
     record {
-      out = out ++ part.part;
-      held = part.appended ∙ (ap (λ (o : Option (List ℕ)). append_known o part.part) written.held ∙ append_known-append sink.held out part.part);
+      part = record {
+        part = c.part.part;
+        is_prefix = (tail ++ more, sym (append_assoc c.part.part tail more) ∙ ap (λ (l : List ℕ). l ++ more) whole);
+        appended = c.part.appended;
+      };
+      rose = c.rose;
+    }
+
+-- a write failed after all before it
+pub Cuts-second : (out more : List ℕ) (sink mid sink' : SinkState) → Appends out sink mid → Cuts more mid sink' → Cuts (out ++ more) sink sink'
+Cuts-second out more sink mid sink' written c =
+    let (tail, whole) = c.part.is_prefix in
+    record {
+      part = record {
+        part = out ++ c.part.part;
+        is_prefix = (tail, append_assoc out c.part.part tail ∙ ap (λ (l : List ℕ). out ++ l) whole);
+        appended = c.part.appended ∙ (ap (λ (o : Option (List ℕ)). append_known o c.part.part) written.held ∙ append_known-append sink.held out c.part.part);
+      };
+      rose = subst (λ (n : ℕ). Rose n sink'.faults) written.steady c.rose;
+    }
+
+-- a write failed, and what was to be written goes on as an allowed text does
+pub Writing-cut : (P : Allows) (silent : Bool) (bytes : List ℕ) (sink sink' : SinkState) → Cuts bytes sink sink' → Begins P bytes → Writing P silent sink sink' 5
+Writing-cut P silent bytes sink sink' c (a, p, (rest, is)) =
+    let (tail, whole) = c.part.is_prefix in
+    record {
+      out = c.part.part;
+      held = c.part.appended;
       whole = λ h. cc h;
       steady = λ h. cc h;
-      cut = λ e. (a, p, (tail ++ rest, joined tail whole));
-      failed = λ e. subst (λ (n : ℕ). Rose n sink'.faults) written.steady rose;
+      cut = λ e. (a, p, (tail ++ rest, sym (append_assoc c.part.part tail rest) ∙ ap (λ (l : List ℕ). l ++ rest) whole ∙ is));
+      failed = λ e. c.rose;
       stopped = λ e. cc e;
       silence = λ e. cc e;
     }
-  where
-    joined : (tail : List ℕ) → part.part ++ tail ≡ more → (out ++ part.part) ++ (tail ++ rest) ≡ a.text
-    joined tail whole =
-        append_assoc out part.part (tail ++ rest)
-        ∙ ap (λ (l : List ℕ). out ++ l) (sym (append_assoc part.part tail rest) ∙ ap (λ (l : List ℕ). l ++ rest) whole)
-        ∙ sym (append_assoc out more rest) ∙ is
 
 -- memory was wanted after an allowed text was begun
 pub Writing-stopped : (P : Allows) (out : List ℕ) (sink sink' : SinkState) → Appends out sink sink' → Begins P out → Writing P false sink sink' 6

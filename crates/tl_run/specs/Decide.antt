@@ -19,10 +19,13 @@ tiled R A = answer (line (codes "tiling" ∷ []) ++ drawing R A) 0
 abbrev pub blocked : Obstruction → Answer
 blocked o = answer (obstruction_text o) 1
 
--- the region has a tiling, and this is the top one; or it has none, for this reason, an open one exactly where the total
--- isn't 0
+-- the region has no tiling, for this reason, an open one exactly where the total isn't 0
+abbrev pub IsBlocked : Region → Allows
+IsBlocked R a = (o : Obstruction) × IsReason R o × Is (blocked o) a
+
+-- the region has a tiling, and this is the top one; or it has none
 abbrev pub Decided : Region → Allows
-Decided R a = ((A : List Tile) × IsTop R A × Is (tiled R A) a) ⊎ ((o : Obstruction) × IsReason R o × Is (blocked o) a)
+Decided R a = ((A : List Tile) × IsTop R A × Is (tiled R A) a) ⊎ IsBlocked R a
 
 abbrev pub RegionReply : Region → List ℕ → Allows
 RegionReply R rest = AtEnd rest (Decided R)

@@ -11,3 +11,9 @@ pub mod Statuses
 pub mod Replying
 pub mod Decide
 pub mod Flips
+pub mod Pieces
+pub mod Samples
+pub mod Ranges
+pub mod WritingSamples
+pub mod Summary
+pub mod Generate

@@ -10,11 +10,12 @@ use Rattle.tl_run.specs.Readers.{OfInput}
 use Rattle.tl_run.specs.Check.{CheckReply}
 use Rattle.tl_run.specs.Decide.{DecideReply}
 use Rattle.tl_run.specs.Flips.{FlipsReply, DistanceReply}
+use Rattle.tl_run.specs.Generate.{GenReply}
 use Rattle.tl_run.specs.Refute.{RefuteReply}
+use Rattle.tl_run.specs.Samples.{SampleReply}
 
--- How a command is answered: not at all, where it isn't there yet; without an input; or by what its input says.
+-- How words are answered: without an input, or by what their input says.
 pub data Meaning : Type 1 where
-  Absent : Meaning
   WithoutInput : Allows → Meaning
   ByInput : (List ℕ → Allows) → Meaning
 
@@ -24,23 +25,19 @@ meaning_of Decide = ByInput DecideReply
 meaning_of Refute = ByInput RefuteReply
 meaning_of Flips = ByInput FlipsReply
 meaning_of Distance = ByInput DistanceReply
-meaning_of _ = Absent
+meaning_of (Sample job) = ByInput (SampleReply job)
+meaning_of (Gen gen) = WithoutInput (GenReply gen)
 
--- what the words ask for; words that are no command ask for what isn't there
+-- what the words ask for; words that are no command are answered with the usage
 abbrev pub asked : List (List ℕ) → Meaning
-asked words = elim (command words) [ None ↦ Absent | Some c ↦ meaning_of c ]
+asked words = elim (command words) [ None ↦ WithoutInput (Is usage) | Some c ↦ meaning_of c ]
 
 abbrev pub reads_input : Meaning → Bool
 reads_input (ByInput P) = true
 reads_input _ = false
 
-abbrev pub IsAbsent : Meaning → Type 0
-IsAbsent Absent = Unit {0}
-IsAbsent _ = ⊥
-
 -- the answers to an input
 abbrev pub Answers : Meaning → List ℕ → Allows
-Answers Absent input = Is usage
 Answers (WithoutInput P) input = P
 Answers (ByInput P) input = OfInput input (P input)
 

@@ -3,7 +3,7 @@ use Rattle.std.specs.Prelude.{◌≡◌, ◌⊎◌, ℕ, Bool, List, [], IsTrue}
 use Rattle.std.specs.Io.KnownBytes.{append_known}
 use Rattle.tl_io.specs.Counts.{Rose}
 use Rattle.tl_io.specs.States.{SinkState}
-use Rattle.tl_io.specs.Writes.{IsPrefixOf}
+use Rattle.tl_io.specs.Writes.{AppendsPart, IsPrefixOf}
 use Rattle.tl_run.specs.Answers.{Answer, answer, Allows, is_whole, write_fault_status, memory_status}
 
 -- the beginning of an allowed text
@@ -14,6 +14,11 @@ Begins P out = (a : Answer) × P a × IsPrefixOf out a.text
 pub record Appends (out : List ℕ) (sink sink' : SinkState) : Type 0 where
   pub held : sink'.held ≡ append_known sink.held out
   pub steady : sink'.faults ≡ sink.faults
+
+-- a write failed, after a beginning of these bytes was appended
+pub record Cuts (bytes : List ℕ) (sink sink' : SinkState) : Type 0 where
+  pub part : AppendsPart sink.held sink'.held bytes
+  pub rose : Rose sink.faults sink'.faults
 
 -- A run that ends with this status wrote an allowed text, or the beginning of one. `silent` says whether all memory is
 -- taken before the first byte is written.

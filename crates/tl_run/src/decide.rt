@@ -6,7 +6,7 @@ ghost use Rattle.tl_definitions.specs.Flip.{IsTop};
 ghost use Rattle.tl_definitions.specs.Heights.{AreHeights};
 ghost use Rattle.tl_extreme.specs.Verdicts.{AreTopHeights, IsReason};
 ghost use Rattle.tl_obstruction.specs.Told.{told_by};
-ghost use Rattle.tl_run.specs.Decide.{Decided, DecideReply};
+ghost use Rattle.tl_run.specs.Decide.{Decided, DecideReply, IsBlocked};
 ghost use Rattle.tl_run.specs.Replying.{answer_of, IfMade};
 
 use crate::readers::{at_end, region_of};
@@ -35,9 +35,10 @@ fn tiling_reply(alloc: Global, region: &Region, heights: &Heights) -> Result<Rep
     Ok(Reply::of_bytes(text, Status::Answered))
 }
 
-fn reason_reply(alloc: Global, region: &Region, told: &Obstruction) -> Result<Reply, AllocError>
+/// The reply that tells why the region has no tiling.
+pub fn reason_reply(alloc: Global, region: &Region, told: &Obstruction) -> Result<Reply, AllocError>
     requires { IsReason region.now (told_by told.now) }
-    ensures { IfOk result (λ reply. Decided region.now (answer_of reply)) }
+    ensures { IfOk result (λ reply. IsBlocked region.now (answer_of reply)) }
 {
     Ok(Reply::of_bytes(write_obstruction(alloc, told)?, Status::Refuted))
 }

@@ -5,13 +5,20 @@ mod check;
 mod command_line;
 mod decide;
 mod flips;
+mod generate;
 mod path_text;
 mod readers;
 mod refusals;
 mod refute;
 mod reply;
 mod run;
+mod sample;
+#[cfg(test)]
+mod sample_tests;
 mod status;
+mod summary;
+#[cfg(test)]
+mod summary_tests;
 #[cfg(test)]
 mod tests;
 mod writers;

@@ -1,7 +1,10 @@
 //! One run of the program.
 
 ghost use Rattle.std.specs.Prelude.{◌≡◌, ◌≤◌, length, map, false, true, IsTrue};
-ghost use Rattle.tl_run.specs.Replies.{Answers, IsAbsent, asked, meaning_of, reads_input, takes_memory_first};
+ghost use Rattle.tl_text.specs.Words.{max_order};
+ghost use Rattle.tl_run.specs.Generate.{GenReply};
+ghost use Rattle.tl_run.specs.Ranges.{IsWithinRanges};
+ghost use Rattle.tl_run.specs.Replies.{Answers, asked, meaning_of, reads_input, takes_memory_first};
 ghost use Rattle.tl_run.specs.Runs.{IsRun, Runs};
 ghost use Rattle.tl_run.specs.Statuses.{code_of};
 ghost use Rattle.tl_run.specs.Writing.{Writing};
@@ -9,30 +12,37 @@ ghost use Rattle.tl_run.specs.Writing.{Writing};
 use crate::check::check;
 use crate::decide::decide;
 use crate::flips::{distance, flips};
+use crate::generate::generate;
 use crate::refusals::{input_too_long, read_fault, usage};
 use crate::refute::refute;
+use crate::sample::sample;
 use crate::status::Status;
+use crate::summary::summary;
 use crate::writers::{write_made, write_reply};
 use std::alloc::Global;
 use std::thread::Threads;
 use tl_formats::INPUT_LIMIT;
 use tl_io::{Gate, InFault, Sink, Source, read_all};
-use tl_text::{Command, WordsFault, read_words};
+use tl_text::{Command, GenJob, WordsFault, read_words};
 
-// Whether the program has the command already.
-fn is_there(command: Command) -> bool
-    ensures there { result ≡ true → IsTrue (reads_input (meaning_of command)) }
-    ensures absent { result ≡ false → IsAbsent (meaning_of command) }
+// Answers `gen`.
+fn answer_gen<K: Sink>(alloc: Global, job: GenJob, sink: &mut K) -> Status
+    requires order { job.order ≤ max_order job.shape }
+    requires bound { job.job.bound ≤ 30 }
+    ensures { Writing (GenReply job) true (K.state sink.old) (K.state sink.new) (code_of result) }
 {
-    matches!(
-        command,
-        Command::Check | Command::Decide | Command::Refute | Command::Flips | Command::Distance
-    )
+    if job.summary {
+        summary(alloc, job, sink)
+    } else {
+        write_made(sink, &generate(alloc, job))
+    }
 }
 
 // Answers an input: an arm for each command.
 fn answer_input<K: Sink>(alloc: Global, command: Command, input: &[u8], sink: &mut K) -> Status
-    requires { length input.now ≤ INPUT_LIMIT }
+    requires input { length input.now ≤ INPUT_LIMIT }
+    requires reads { IsTrue (reads_input (meaning_of command)) }
+    requires ranges { IsWithinRanges command }
     ensures { Writing (Answers (meaning_of command) input.now) (takes_memory_first command)
         (K.state sink.old) (K.state sink.new) (code_of result) }
 {
@@ -42,13 +52,15 @@ fn answer_input<K: Sink>(alloc: Global, command: Command, input: &[u8], sink: &m
         Command::Refute => write_made(sink, &refute(alloc, input)),
         Command::Flips => write_made(sink, &flips(alloc, input)),
         Command::Distance => write_made(sink, &distance(alloc, input)),
-        _ => write_reply(sink, &usage()),
+        Command::Sample(job) => sample(alloc, job, input, sink),
+        Command::Gen(_) => unreachable!(),
     }
 }
 
 // Reads the input, and answers it.
 fn hear<S: Source, K: Sink>(alloc: Global, command: Command, source: &mut S, sink: &mut K) -> Status
-    requires { IsTrue (reads_input (meaning_of command)) }
+    requires reads { IsTrue (reads_input (meaning_of command)) }
+    requires ranges { IsWithinRanges command }
     ensures { Runs (meaning_of command) (takes_memory_first command) (S.state source.old)
         (S.state source.new) (K.state sink.old) (K.state sink.new) (code_of result) }
 {
@@ -57,6 +69,24 @@ fn hear<S: Source, K: Sink>(alloc: Global, command: Command, source: &mut S, sin
         Err(InFault::ReadFault) => write_reply(sink, &read_fault()),
         Err(InFault::InputTooLong) => write_reply(sink, &input_too_long()),
         Err(InFault::OutOfMemory) => Status::OutOfMemory,
+    }
+}
+
+// Answers a command. `gen` alone reads nothing.
+fn answer_command<S: Source, K: Sink>(
+    alloc: Global,
+    command: Command,
+    source: &mut S,
+    sink: &mut K,
+) -> Status
+    requires { IsWithinRanges command }
+    ensures run { Runs (meaning_of command) (takes_memory_first command) (S.state source.old)
+        (S.state source.new) (K.state sink.old) (K.state sink.new) (code_of result) }
+    ensures untouched { reads_input (meaning_of command) ≡ false → source.new ≡ source.old }
+{
+    match command {
+        Command::Gen(job) => answer_gen(alloc, job, sink),
+        _ => hear(alloc, command, source, sink),
     }
 }
 
@@ -79,8 +109,7 @@ pub fn run_quiet<R: Threads, S: Source, K: Sink + Send, G: Gate + Sync>(
     ensures untouched { reads_input (asked (map (λ w. w.now) words.now)) ≡ false → source.new ≡ source.old }
 {
     match read_words(alloc, words) {
-        Ok(command) if is_there(command) => hear(alloc, command, source, sink),
-        Ok(_) => write_reply(sink, &usage()),
+        Ok(command) => answer_command(alloc, command, source, sink),
         Err(WordsFault::Usage) => write_reply(sink, &usage()),
         Err(WordsFault::OutOfMemory) => Status::OutOfMemory,
     }

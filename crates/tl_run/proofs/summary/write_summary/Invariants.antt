@@ -1,0 +1,11 @@
+use Rattle.std.proofs.Common.{◌≡◌}
+use Rattle.tl_run.specs.Statuses.{code_of}
+use Rattle.tl_run.specs.Summary.{RankedPieces}
+use Rattle.tl_run.proofs.PieceLemmas.{AreWritten}
+use Rattle.tl_run.proofs.summary.write_summary.Given as goal
+
+abbrev pub invariant-loop-number : goal.invariant-loop-number
+invariant-loop-number g l = record {
+  region : l.sampler.region ≡ l.fn.sampler.region;
+  written : AreWritten (RankedPieces l.fn.sampler.region l.job) l.head l.number (code_of l.status) (g.K.Sink.state l.fn.sink) (g.K.Sink.state l.sink);
+}

@@ -1,0 +1,11 @@
+-- What every command that words ask for keeps to.
+use Rattle.std.specs.Prelude.{◌≤◌}
+use Rattle.tl_text.specs.declared.Command.{Command}
+use Rattle.tl_text.specs.declared.Command.TheVariants.{Sample, Gen}
+use Rattle.tl_text.specs.Words.{max_order}
+
+-- the bound of the samples, and the order of the shape
+abbrev pub IsWithinRanges : Command → Type 0
+IsWithinRanges (Sample job) = job.bound ≤ 30
+IsWithinRanges (Gen gen) = (gen.order ≤ max_order gen.shape) × (gen.job.bound ≤ 30)
+IsWithinRanges _ = Unit {0}
