@@ -1,0 +1,7 @@
+pub mod Stated
+mod Left
+mod Filled
+mod Sums
+mod OfLattice
+mod Packed
+mod Held
