@@ -32,7 +32,8 @@ impl Piece {
 
     // Whether the bits of two pieces go to one word and are as far from each other there.
     fn joins(&self, other: &Piece) -> bool
-        ensures { IsTrue result → (other.now.place ≡ self.now.place) × (other.now.from ≡ self.now.from) × (other.now.shift ≡ self.now.shift) }
+        ensures { IsTrue result → (other.now.place ≡ self.now.place) × (other.now.from ≡ self.now.from)
+            × (other.now.shift ≡ self.now.shift) }
     {
         self.place == other.place && self.from == other.from && self.shift == other.shift
     }

@@ -11,20 +11,20 @@ use Rattle.tl_marks.specs.Marks.{mark}
 use Rattle.tl_strings.specs.Strings.{column, row_of, slot_of, string_bit, word_place}
 use Rattle.tl_layout.specs.declared.layout.Layout.{Layout}
 use Rattle.tl_layout.specs.Layouts.{size_of}
-use Rattle.tl_packing.specs.Packing.{HoldsMarks}
+use Rattle.tl_packing.specs.Packing.{HoldsMarks, IsReached}
 use Rattle.tl_pack.specs.Packs.{AreHeld, HoldsClass, strings_of}
 
 pub held-from : (R : Region) (l : Layout) (strings : ℕ → List ℕ) (shift : ℕ) (numbers : List ℤ) → AreLawful R numbers → HoldsMarks R l.height l.first numbers strings shift
     → AreHeld R l strings shift numbers
-held-from R l strings shift numbers lawful holds = record { lawful = lawful; marks = λ v of_region near within. holds v of_region near }
+held-from R l strings shift numbers lawful holds = record { lawful = lawful; marks = λ v of_region near reached within. holds v of_region near reached }
 
 pub packed-held : (R : Region) (l : Layout) (numbers : List ℤ) (first second third : List ℕ) → AreLawful R numbers → HoldsClass R l numbers 0 first → HoldsClass R l numbers 1 second
     → (R.kind ≡ Triangle → HoldsClass R l numbers 2 third) → AreHeld R l (strings_of first second third) 0 numbers
 packed-held R l numbers first second third lawful a b c = record { lawful = lawful; marks = marks }
   where
-    marks : (v : Corner) → is_corner_of R v ≡ true → l.first ≤ column R.kind v + 1 → word_place l.height (row_of v) (slot_of R.kind l.first v + 0) < size_of l
+    marks : (v : Corner) → is_corner_of R v ≡ true → l.first ≤ column R.kind v + 1 → IsReached R v → word_place l.height (row_of v) (slot_of R.kind l.first v + 0) < size_of l
         → string_bit l.height (strings_of first second third (class_of R.kind v)) (row_of v) (slot_of R.kind l.first v + 0) ≡ mark R numbers v
-    marks v of_region near within = go (cases_eq (class_of R.kind v) 0) (cases_eq (class_of R.kind v) 1)
+    marks v of_region near reached within = go (cases_eq (class_of R.kind v) 0) (cases_eq (class_of R.kind v) 1)
       where
         same : slot_of R.kind l.first v + 0 ≡ slot_of R.kind l.first v
         same = omega arith

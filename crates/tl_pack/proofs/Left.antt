@@ -183,12 +183,12 @@ told-in R l strings shift numbers v layout held less inner of_region left_of_reg
     slot = omega (arith, columns, stands.column)
 
     here : string_bit l.height (strings (class_of R.kind v)) (row_of v) (slot_of R.kind l.first v + shift) ≡ mark R numbers v
-    here = held.marks v of_region (omega (arith, stands.column)) (word-within R.kind l v (slot_of R.kind l.first v + shift) stands (omega (arith, less)))
+    here = held.marks v of_region (omega (arith, stands.column)) (v, inner, omega arith) (word-within R.kind l v (slot_of R.kind l.first v + shift) stands (omega (arith, less)))
 
     left : string_bit l.height (strings (left_class R.kind v)) (row_of v) (slot_of R.kind l.first v + shift - 1) ≡ mark R numbers w
     left =
         (λ i. string_bit l.height (strings (sym (left-class R.kind v near) i)) (row_of v) (slot i))
-        ∙ held.marks w left_of_region (omega (arith, stands.column, columns))
+        ∙ held.marks w left_of_region (omega (arith, stands.column, columns)) (v, inner, omega (arith, columns))
         (word-within R.kind l v (slot_of R.kind l.first w + shift) stands (omega (arith, less, stands.column, columns)))
 
 pub left-within : (R : Region) (v : Corner) → is_inner R v ≡ true → (cell_width R.kind ≤ v.x) × (is_corner_of R (left_corner R.kind v) ≡ true)

@@ -8,6 +8,7 @@ use Rattle.tl_definitions.specs.Region.{Region, is_corner_of}
 use Rattle.tl_definitions.specs.Heights.{AreLawful}
 use Rattle.tl_marks.specs.Marks.{base, is_upper_half, mark, xor}
 use Rattle.tl_strings.specs.Strings.{column, row_of, slot_of, string_bit, word_place}
+use Rattle.tl_packing.specs.Packing.{IsReached}
 use Rattle.tl_layout.specs.declared.layout.Layout.{Layout}
 use Rattle.tl_layout.specs.Layouts.{corner_by, row_by, size_of, slot_by}
 
@@ -21,10 +22,10 @@ AreOfSize l first second third =
     (length first ≡ size_of l) × (length second ≡ size_of l) × (l.kind ≡ Triangle → length third ≡ size_of l)
 
 -- Lawful heights whose marks the strings hold, each so many slots on as the shift tells, where the slot is in the strings.
--- Corners more than a column before the first may have no slot.
+-- Corners more than a column before the first, or behind the last inner corner, may have no slot.
 pub record AreHeld (R : Region) (l : Layout) (strings : ℕ → List ℕ) (shift : ℕ) (numbers : List ℤ) : Type 0 where
   pub lawful : AreLawful R numbers
-  pub marks : (v : Corner) → IsTrue (is_corner_of R v) → l.first ≤ column R.kind v + 1
+  pub marks : (v : Corner) → IsTrue (is_corner_of R v) → l.first ≤ column R.kind v + 1 → IsReached R v
       → word_place l.height (row_of v) (slot_of R.kind l.first v + shift) < size_of l
       → string_bit l.height (strings (class_of R.kind v)) (row_of v) (slot_of R.kind l.first v + shift) ≡ mark R numbers v
 

@@ -57,7 +57,7 @@ not_frame_late : IsFrame two_two 4 2 → ⊥
 not_frame_late late = let behind : 2 ≤ 1 = late.columns (corner 1 1) refl in omega (arith, behind)
 
 stands : StandsAt two_two 1 1 2 63 (corner 1 0)
-stands = record { of_region = refl; not_before = omega arith; of_class = refl; row_is = refl; slot_is = refl }
+stands = record { of_region = refl; not_before = omega arith; reached = (corner 1 1, refl, omega arith); of_class = refl; row_is = refl; slot_is = refl }
 
 not_stands : StandsAt two_two 1 1 2 64 (corner 1 0) → ⊥
 not_stands wrong = let same : 63 ≡ 64 = wrong.slot_is in omega (arith, same)
@@ -76,21 +76,21 @@ packed middle zero = 0 ∷ 0 ∷ 0 ∷ 0 ∷ 0 ∷ 6 ∷ middle ∷ 6 ∷ []
 packed middle (suc class) = 0 ∷ 0 ∷ 0 ∷ 0 ∷ 0 ∷ 0 ∷ 6 ∷ []
 
 holds_low : HoldsMarks two_two 4 1 low (packed 2) 0
-holds_low =
+holds_low v of_region near reached =
     each-corner (λ v. 1 ≤ column Square v + 1 → string_bit 4 (packed 2 (class_of Square v)) (row_of v) (slot_of Square 1 v + 0) ≡ mark two_two low v)
-    (λ e. refl, (λ e. refl, (λ e. refl, (λ e. refl, (λ e. refl, (λ e. refl, (λ e. refl, (λ e. refl, (λ e. refl, tt)))))))))
+    (λ e. refl, (λ e. refl, (λ e. refl, (λ e. refl, (λ e. refl, (λ e. refl, (λ e. refl, (λ e. refl, (λ e. refl, tt))))))))) v of_region near
 
 holds_high : HoldsMarks two_two 4 1 high (packed 2) 1
-holds_high =
+holds_high v of_region near reached =
     each-corner (λ v. 1 ≤ column Square v + 1 → string_bit 4 (packed 2 (class_of Square v)) (row_of v) (slot_of Square 1 v + 1) ≡ mark two_two high v)
-    (λ e. refl, (λ e. refl, (λ e. refl, (λ e. refl, (λ e. refl, (λ e. refl, (λ e. refl, (λ e. refl, (λ e. refl, tt)))))))))
+    (λ e. refl, (λ e. refl, (λ e. refl, (λ e. refl, (λ e. refl, (λ e. refl, (λ e. refl, (λ e. refl, (λ e. refl, tt))))))))) v of_region near
 
 holds_both : HoldsBoth two_two 4 1 low high (packed 2)
 holds_both = record { low_end = holds_low; high_end = holds_high }
 
 -- The other heights aren't held, nor the two ends the other way round.
 not_holds : HoldsMarks two_two 4 1 high (packed 2) 0 → ⊥
-not_holds wrong = cc (wrong (corner 1 1) refl (omega arith))
+not_holds wrong = cc (wrong (corner 1 1) refl (omega arith) (corner 1 1, refl, omega arith))
 
 not_holds_both : HoldsBoth two_two 4 1 high low (packed 2) → ⊥
 not_holds_both wrong = not_holds wrong.low_end
@@ -232,10 +232,10 @@ not_stepped_squares wrong = cc (wrong.stepped 2 64 (omega arith) (omega arith) (
 -- and the new strings hold the high heights at both ends
 holds_after : HoldsBoth two_two 4 1 high high (packed 3)
 holds_after = record {
-  low_end = each-corner (λ v. 1 ≤ column Square v + 1 → string_bit 4 (packed 3 (class_of Square v)) (row_of v) (slot_of Square 1 v + 0) ≡ mark two_two high v)
-      (λ e. refl, (λ e. refl, (λ e. refl, (λ e. refl, (λ e. refl, (λ e. refl, (λ e. refl, (λ e. refl, (λ e. refl, tt)))))))));
-  high_end = each-corner (λ v. 1 ≤ column Square v + 1 → string_bit 4 (packed 3 (class_of Square v)) (row_of v) (slot_of Square 1 v + 1) ≡ mark two_two high v)
-      (λ e. refl, (λ e. refl, (λ e. refl, (λ e. refl, (λ e. refl, (λ e. refl, (λ e. refl, (λ e. refl, (λ e. refl, tt)))))))));
+  low_end = λ v of_region near reached. each-corner (λ v. 1 ≤ column Square v + 1 → string_bit 4 (packed 3 (class_of Square v)) (row_of v) (slot_of Square 1 v + 0) ≡ mark two_two high v)
+      (λ e. refl, (λ e. refl, (λ e. refl, (λ e. refl, (λ e. refl, (λ e. refl, (λ e. refl, (λ e. refl, (λ e. refl, tt))))))))) v of_region near;
+  high_end = λ v of_region near reached. each-corner (λ v. 1 ≤ column Square v + 1 → string_bit 4 (packed 3 (class_of Square v)) (row_of v) (slot_of Square 1 v + 1) ≡ mark two_two high v)
+      (λ e. refl, (λ e. refl, (λ e. refl, (λ e. refl, (λ e. refl, (λ e. refl, (λ e. refl, (λ e. refl, (λ e. refl, tt))))))))) v of_region near;
 }
 
 -- ---- the hexagon of six triangles, with -1 or 2 in the middle
@@ -270,12 +270,12 @@ each-of-hexagon P all w e = Each-at P w (vertices hexagon) all (In-vertices hexa
 
 holds_hexagon : HoldsBoth hexagon 4 1 (round_middle (negsuc 0)) (round_middle (pos 2)) (packed_hexagon 1)
 holds_hexagon = record {
-  low_end = each-of-hexagon
+  low_end = λ v of_region near reached. each-of-hexagon
       (λ v. 1 ≤ column Triangle v + 1 → string_bit 4 (packed_hexagon 1 (class_of Triangle v)) (row_of v) (slot_of Triangle 1 v + 0) ≡ mark hexagon (round_middle (negsuc 0)) v)
-      (λ e. refl, (λ e. refl, (λ e. refl, (λ e. refl, (λ e. refl, (λ e. refl, (λ e. refl, tt)))))));
-  high_end = each-of-hexagon
+      (λ e. refl, (λ e. refl, (λ e. refl, (λ e. refl, (λ e. refl, (λ e. refl, (λ e. refl, tt))))))) v of_region near;
+  high_end = λ v of_region near reached. each-of-hexagon
       (λ v. 1 ≤ column Triangle v + 1 → string_bit 4 (packed_hexagon 1 (class_of Triangle v)) (row_of v) (slot_of Triangle 1 v + 1) ≡ mark hexagon (round_middle (pos 2)) v)
-      (λ e. refl, (λ e. refl, (λ e. refl, (λ e. refl, (λ e. refl, (λ e. refl, (λ e. refl, tt)))))));
+      (λ e. refl, (λ e. refl, (λ e. refl, (λ e. refl, (λ e. refl, (λ e. refl, (λ e. refl, tt))))))) v of_region near;
 }
 
 -- the coin 1 again

@@ -117,11 +117,12 @@ module _ (R : Region) (height first : ℕ) (frame : IsFrame R height first) (v :
   pub slot-not_first : 64 ≤ slot_of R.kind first v
   slot-not_first = omega (arith, frame.columns v inner)
 
-  stands : (k : Kind) (u : Corner) (class row slot : ℕ) → R.kind ≡ k → IsBeside k v u → first ≤ column k u + 1 → class_of k u ≡ class → row_of u ≡ row
+  stands : (k : Kind) (u : Corner) (class row slot : ℕ) → R.kind ≡ k → IsBeside k v u → first ≤ column k u + 1 → column k u ≤ column k v + 1 → class_of k u ≡ class → row_of u ≡ row
       → slot_of k first u ≡ slot → StandsAt R first class row slot u
-  stands k u class row slot e beside near of row_is slot_is = record {
+  stands k u class row slot e beside near on of row_is slot_is = record {
     of_region = beside-corner R v u inner (subst (λ (j : Kind). IsBeside j v u) (sym e) beside);
     not_before = subst (λ (j : Kind). first ≤ column j u + 1) (sym e) near;
+    reached = (v, inner, subst (λ (j : Kind). column j u ≤ column j v + 1) (sym e) on);
     of_class = subst (λ (j : Kind). class_of j u ≡ class) (sym e) of;
     row_is = row_is;
     slot_is = subst (λ (j : Kind). slot_of j first u ≡ slot) (sym e) slot_is;
@@ -132,13 +133,13 @@ module _ (R : Region) (height first : ℕ) (frame : IsFrame R height first) (v :
       let within : (1 ≤ v.r) × (1 ≤ v.x) = subst (λ (j : Kind). IsWithin j v) e (inner-within R v inner) in
       let behind : first ≤ v.x = subst (λ (j : Kind). first ≤ column j v) e (frame.columns v inner) in
       record {
-        west = stands Square (corner v.r (v.x - 1)) _ _ _ e (across-beside v _ refl (inr (omega (arith, within)))) (omega (arith, behind))
+        west = stands Square (corner v.r (v.x - 1)) _ _ _ e (across-beside v _ refl (inr (omega (arith, within)))) (omega (arith, behind)) (omega arith)
             (omega (arith, within)) refl (omega (arith, within, behind));
-        east = stands Square (corner v.r (v.x + 1)) _ _ _ e (across-beside v _ refl (inl refl)) (omega (arith, behind))
+        east = stands Square (corner v.r (v.x + 1)) _ _ _ e (across-beside v _ refl (inl refl)) (omega (arith, behind)) (omega arith)
             (omega (arith, within)) refl (omega (arith, within, behind));
-        north = stands Square (corner (v.r - 1) v.x) _ _ _ e (upright-beside v _ refl (inr (omega (arith, within)))) (omega (arith, behind))
+        north = stands Square (corner (v.r - 1) v.x) _ _ _ e (upright-beside v _ refl (inr (omega (arith, within)))) (omega (arith, behind)) (omega arith)
             (omega (arith, within)) (omega (arith, within)) refl;
-        south = stands Square (corner (v.r + 1) v.x) _ _ _ e (upright-beside v _ refl (inl refl)) (omega (arith, behind))
+        south = stands Square (corner (v.r + 1) v.x) _ _ _ e (upright-beside v _ refl (inl refl)) (omega (arith, behind)) (omega arith)
             (omega (arith, within)) refl refl;
       }
 
@@ -149,18 +150,18 @@ module _ (R : Region) (height first : ℕ) (frame : IsFrame R height first) (v :
       let odd : (v.r + v.x) % 2 ≡ 1 = eqb-true _ _ (subst (λ (j : Kind). is_corner j v ≡ true) e (inner-corner R v inner)) in
       record {
         west = stands Triangle (corner v.r (v.x - 2)) _ _ _ e (inl (move-step_in Triangle _ v (inl (refl, omega (arith, within)))))
-            (omega (arith, within, behind)) (omega (arith, within)) refl (omega (arith, within, behind));
+            (omega (arith, within, behind)) (omega (arith, within)) (omega (arith, within)) refl (omega (arith, within, behind));
         north_east = stands Triangle (corner (v.r - 1) (v.x + 1)) _ _ _ e
             (inl (move-step_in Triangle _ v (inr (inr (omega (arith, within), refl)))))
-            (omega (arith, within, behind)) (omega (arith, within)) (omega (arith, within)) (omega (arith, within, behind));
+            (omega (arith, within, behind)) (omega (arith, within)) (omega (arith, within)) (omega (arith, within)) (omega (arith, within, behind));
         south_east = stands Triangle (corner (v.r + 1) (v.x + 1)) _ _ _ e (inl (move-step_in Triangle _ v (inr (inl (refl, refl)))))
-            (omega (arith, within, behind)) (omega (arith, within)) refl (omega (arith, within, behind));
+            (omega (arith, within, behind)) (omega (arith, within)) (omega (arith, within)) refl (omega (arith, within, behind));
         east = stands Triangle (corner v.r (v.x + 2)) _ _ _ e (inr (move-step Triangle v _ (inl (refl, refl))))
-            (omega (arith, within, behind)) (omega (arith, within)) refl (omega (arith, within, behind));
+            (omega (arith, within, behind)) (omega (arith, within)) (omega (arith, within)) refl (omega (arith, within, behind));
         north_west = stands Triangle (corner (v.r - 1) (v.x - 1)) _ _ _ e
             (inr (move-step Triangle v _ (inr (inl (omega (arith, within), omega (arith, within))))))
-            (omega (arith, within, behind)) (omega (arith, within)) (omega (arith, within)) (omega (arith, within, behind));
+            (omega (arith, within, behind)) (omega (arith, within)) (omega (arith, within)) (omega (arith, within)) (omega (arith, within, behind));
         south_west = stands Triangle (corner (v.r + 1) (v.x - 1)) _ _ _ e
             (inr (move-step Triangle v _ (inr (inr (refl, omega (arith, within))))))
-            (omega (arith, within, behind)) (omega (arith, within)) refl (omega (arith, within, behind));
+            (omega (arith, within, behind)) (omega (arith, within)) (omega (arith, within)) refl (omega (arith, within, behind));
       }

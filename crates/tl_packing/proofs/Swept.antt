@@ -42,7 +42,7 @@ module _ (R : Region) (height first k shift : ℕ) (accepted : Accepted R) (fram
       → string_bit height (strings class') row place' ≡ mark R numbers u
   read class row place class' place' u at of there =
       (λ i. string_bit height (strings ((of ∙ sym at.of_class) i)) (sym at.row_is i) ((there ∙ (λ j. sym at.slot_is j + shift)) i))
-      ∙ holds u at.of_region at.not_before
+      ∙ holds u at.of_region at.not_before at.reached
 
   -- What the new string of the class has to be: at inner corners it has the mark that the step puts, and at others its old bit.
   abbrev IsPut : Type 0
@@ -54,7 +54,7 @@ module _ (R : Region) (height first k shift : ℕ) (accepted : Accepted R) (fram
       → string_bit height (new k) (row_of v) (slot v) ≡ string_bit height (strings k) (row_of v) (slot v)
 
   all-held : IsPut → IsLeft → HoldsMarks R height first others new shift
-  all-held put left v of_region near = go (cases_Bool (is_of_class R k v)) (cases_Bool (is_inner R v))
+  all-held put left v of_region near reached = go (cases_Bool (is_of_class R k v)) (cases_Bool (is_inner R v))
     where
       go : (is_of_class R k v ≡ true) ⊎ (is_of_class R k v ≡ false) → (is_inner R v ≡ true) ⊎ (is_inner R v ≡ false)
           → string_bit height (new (class_of R.kind v)) (row_of v) (slot v) ≡ mark R others v
@@ -66,10 +66,10 @@ module _ (R : Region) (height first k shift : ℕ) (accepted : Accepted R) (fram
           ap (λ (class : ℕ). string_bit height (new class) (row_of v) (slot v)) (eqb-true _ _ of_class)
           ∙ (left v of_region near of_class outer
           ∙ (ap (λ (class : ℕ). string_bit height (strings class) (row_of v) (slot v)) (sym (eqb-true _ _ of_class))
-          ∙ (holds v of_region near ∙ sym (mark-same R numbers others v (swept.kept v of_region (and_left _ _ outer))))))
+          ∙ (holds v of_region near reached ∙ sym (mark-same R numbers others v (swept.kept v of_region (and_left _ _ outer))))))
       go (inr other) any =
           ap (λ (words : List ℕ). string_bit height words (row_of v) (slot v)) (same (class_of R.kind v) (eqb-false _ _ other))
-          ∙ (holds v of_region near ∙ sym (mark-same R numbers others v (swept.kept v of_region (and_right _ _ other))))
+          ∙ (holds v of_region near reached ∙ sym (mark-same R numbers others v (swept.kept v of_region (and_right _ _ other))))
 
   module _ (coins lows free : List ℕ) (has : HasCoins R height first bits coins) (low : AreLowSlots R height first k lows) (are_free : AreFreeSlots height lows free) (l : shift ≤ 1) where
     within-height : (v : Corner) → is_corner_of R v ≡ true → row_of v < height
@@ -83,7 +83,7 @@ module _ (R : Region) (height first k shift : ℕ) (accepted : Accepted R) (fram
     own i v at of_class =
         let inner = inner-at R v i at in
         let behind = frame.columns v inner in (
-          ap (λ (n : ℕ). string_bit height (strings n) (row_of v) (slot v)) (sym (eqb-true _ _ of_class)) ∙ holds v (inner-of_region R v inner) (omega (arith, behind)),
+          ap (λ (n : ℕ). string_bit height (strings n) (row_of v) (slot v)) (sym (eqb-true _ _ of_class)) ∙ holds v (inner-of_region R v inner) (omega (arith, behind)) (v, inner, omega arith),
           inner-coin R height first k accepted frame lows low bits coins has v i shift at of_class l,
           inner-free R height first k accepted frame lows low free are_free v shift inner of_class l,
         )

@@ -17,11 +17,15 @@ pub record IsFrame (R : Region) (height first : ℕ) : Type 0 where
   pub rows : R.rows + 2 ≤ height
   pub columns : (v : Corner) → IsTrue (is_inner R v) → first ≤ column R.kind v
 
+-- A corner is at most one column behind some inner corner. Corners further on are beside none.
+abbrev pub IsReached : Region → Corner → Type 0
+IsReached R v = (w : Corner) × IsTrue (is_inner R w) × (column R.kind v ≤ column R.kind w + 1)
+
 -- Strings of words, one for each class, hold the mark of each corner at its slot: for the low end of a pair of tilings with the
--- shift 0, and for the high end one slot further, with the shift 1. Corners more than a column before the first are beside no
--- inner corner, and need no mark.
+-- shift 0, and for the high end one slot further, with the shift 1. Corners more than a column before the first, or behind the last
+-- inner corner, are beside none, and need no mark.
 abbrev pub HoldsMarks : Region → ℕ → ℕ → List ℤ → (ℕ → List ℕ) → ℕ → Type 0
-HoldsMarks R height first numbers strings shift = (v : Corner) → IsTrue (is_corner_of R v) → first ≤ column R.kind v + 1
+HoldsMarks R height first numbers strings shift = (v : Corner) → IsTrue (is_corner_of R v) → first ≤ column R.kind v + 1 → IsReached R v
     → string_bit height (strings (class_of R.kind v)) (row_of v) (slot_of R.kind first v + shift) ≡ mark R numbers v
 
 -- both ends of a pair in the same strings
@@ -33,6 +37,7 @@ pub record HoldsBoth (R : Region) (height first : ℕ) (low high : List ℤ) (st
 pub record StandsAt (R : Region) (first class row slot : ℕ) (v : Corner) : Type 0 where
   pub of_region : IsTrue (is_corner_of R v)
   pub not_before : first ≤ column R.kind v + 1
+  pub reached : IsReached R v
   pub of_class : class_of R.kind v ≡ class
   pub row_is : row_of v ≡ row
   pub slot_is : slot_of R.kind first v ≡ slot

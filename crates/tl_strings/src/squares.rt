@@ -28,7 +28,8 @@ pub fn step_squares(
     requires range { first ≤ end }
     requires end { end + height ≤ length strings.old }
     ensures len { length strings.new ≡ length strings.old }
-    ensures stepped { (row slot : ℕ) → IsInside height strings.old row slot → first ≤ word_place height row slot → word_place height row slot < end
+    ensures stepped { (row slot : ℕ) → IsInside height strings.old row slot → first ≤ word_place height row slot
+        → word_place height row slot < end
         → string_bit height strings.new row slot
         ≡ square_slot is_odd height others.now planes.entry.coins.now planes.entry.lows.now planes.entry.free.now row slot (string_bit height strings.old row slot) }
     ensures before { (at : ℕ) → at < first → slice_index strings.new at ≡ slice_index strings.old at }
@@ -102,7 +103,8 @@ fn square_at(
 
 #[inline]
 fn across_word(here: u64, west: u64, east: u64, is_odd: bool) -> u64
-    ensures { (place : ℕ) → place < 64 → bit result place ≡ across is_odd (bit here place) (bit west place) (bit east place) }
+    ensures { (place : ℕ) → place < 64 → bit result place
+        ≡ across is_odd (bit here place) (bit west place) (bit east place) }
 {
     if is_odd {
         (west ^ here) & !(east ^ here)
@@ -113,7 +115,8 @@ fn across_word(here: u64, west: u64, east: u64, is_odd: bool) -> u64
 
 #[inline]
 fn upright_word(here: u64, north: u64, south: u64) -> u64
-    ensures { (place : ℕ) → place < 64 → bit result place ≡ upright (bit here place) (bit north place) (bit south place) }
+    ensures { (place : ℕ) → place < 64 → bit result place
+        ≡ upright (bit here place) (bit north place) (bit south place) }
 {
     (north ^ here) & (south ^ here)
 }

@@ -30,7 +30,8 @@ pub fn step_triangles(
     requires range { first ≤ end }
     requires end { end + height + 1 ≤ length strings.old }
     ensures len { length strings.new ≡ length strings.old }
-    ensures stepped { (row slot : ℕ) → IsInside height strings.old row slot → first ≤ word_place height row slot → word_place height row slot < end
+    ensures stepped { (row slot : ℕ) → IsInside height strings.old row slot → first ≤ word_place height row slot
+        → word_place height row slot < end
         → string_bit height strings.new row slot
         ≡ triangle_slot class height from.now to.now planes.entry.coins.now planes.entry.lows.now planes.entry.free.now row slot (string_bit height strings.old row slot) }
     ensures before { (at : ℕ) → at < first → slice_index strings.new at ≡ slice_index strings.old at }
@@ -106,7 +107,8 @@ fn triangle_at(
 
 #[inline]
 fn all_three_word(here: u64, first: u64, second: u64, third: u64, is_turned: bool) -> u64
-    ensures { (place : ℕ) → place < 64 → bit result place ≡ all_three is_turned (bit here place) (bit first place) (bit second place) (bit third place) }
+    ensures { (place : ℕ) → place < 64 → bit result place
+        ≡ all_three is_turned (bit here place) (bit first place) (bit second place) (bit third place) }
 {
     let same = if is_turned { !here } else { here };
     (first ^ same) & (second ^ same) & (third ^ same)

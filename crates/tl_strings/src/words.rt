@@ -34,7 +34,8 @@ pub(crate) fn moved_down(word: u64, next: u64) -> u64
 pub(crate) fn before(words: &[u64], at: usize, height: usize) -> u64
     requires not_first { height ≤ at }
     requires within { at < length words.now }
-    ensures { (row slot : ℕ) → word_place height row slot ≡ at → 1 ≤ slot → bit result (slot % 64) ≡ string_bit height words.now row (slot - 1) }
+    ensures { (row slot : ℕ) → word_place height row slot ≡ at → 1 ≤ slot → bit result (slot % 64)
+        ≡ string_bit height words.now row (slot - 1) }
 {
     moved_up(words[at], words[at - height])
 }
@@ -43,7 +44,8 @@ pub(crate) fn before(words: &[u64], at: usize, height: usize) -> u64
 #[inline]
 pub(crate) fn behind(words: &[u64], at: usize, height: usize) -> u64
     requires not_last { at + height < length words.now }
-    ensures { (row slot : ℕ) → word_place height row slot ≡ at → bit result (slot % 64) ≡ string_bit height words.now row (slot + 1) }
+    ensures { (row slot : ℕ) → word_place height row slot ≡ at → bit result (slot % 64)
+        ≡ string_bit height words.now row (slot + 1) }
 {
     moved_down(words[at], words[at + height])
 }
@@ -54,7 +56,8 @@ pub(crate) fn coin_word(coins: &[u64], lows: &[u64], at: usize, height: usize) -
     requires not_first { height ≤ at }
     requires coins { at < length coins.now }
     requires lows { at < length lows.now }
-    ensures { (row slot : ℕ) → word_place height row slot ≡ at → 1 ≤ slot → bit result (slot % 64) ≡ coin_bit height coins.now lows.now row slot }
+    ensures { (row slot : ℕ) → word_place height row slot ≡ at → 1 ≤ slot → bit result (slot % 64)
+        ≡ coin_bit height coins.now lows.now row slot }
 {
     let here = coins[at] & lows[at];
     let previous = coins[at - height] & lows[at - height];
@@ -64,7 +67,8 @@ pub(crate) fn coin_word(coins: &[u64], lows: &[u64], at: usize, height: usize) -
 // Steps at all slots of a word that are free.
 #[inline]
 pub(crate) fn stepped(here: u64, all_to: u64, all_from: u64, coin: u64, free: u64) -> u64
-    ensures { (place : ℕ) → place < 64 → bit result place ≡ stepped_bit (bit here place) (bit all_to place) (bit all_from place) (bit coin place) (bit free place) }
+    ensures { (place : ℕ) → place < 64 → bit result place
+        ≡ stepped_bit (bit here place) (bit all_to place) (bit all_from place) (bit coin place) (bit free place) }
 {
     here ^ (((all_to & coin) | (all_from & !coin)) & free)
 }
@@ -72,7 +76,8 @@ pub(crate) fn stepped(here: u64, all_to: u64, all_from: u64, coin: u64, free: u6
 // The bits of `one` where `mask` has a bit, and those of `other` elsewhere.
 #[inline]
 pub(crate) fn chosen(mask: u64, one: u64, other: u64) -> u64
-    ensures { (place : ℕ) → place < 64 → bit result place ≡ (if bit mask place then bit one place else bit other place) }
+    ensures { (place : ℕ) → place < 64 → bit result place
+        ≡ (if bit mask place then bit one place else bit other place) }
 {
     (one & mask) | (other & !mask)
 }
