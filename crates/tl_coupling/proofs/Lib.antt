@@ -1,3 +1,2 @@
 pub mod FewWords
 pub mod ReadWords
-pub mod Samples

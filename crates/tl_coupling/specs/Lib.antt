@@ -1,4 +1,3 @@
 pub mod Carried
 pub mod SweptNumbers
 pub mod Laws
-pub mod Drawn

@@ -1,13 +1,13 @@
 //! Samples of small regions, which were worked out by hand or gone through tiling by tiling.
 
-ghost use Rattle.std.specs.Prelude.{◌≤◌, length};
+ghost use Rattle.std.specs.Prelude.{◌≡◌, ◌≤◌, length, IfSome};
 ghost use Rattle.tl_definitions.specs.Accepted.{IsCircuit};
 
-use crate::{Sampler, TilingChain};
+use crate::{TilingChain, words_of};
 use std::alloc::Global;
 use tl_bits::Numbered;
 use tl_boundary::{Circuit, circuit};
-use tl_chain::Drawn;
+use tl_chain::{Drawn, draw};
 use tl_extreme::{Verdict, extremes};
 use tl_formats::INPUT_LIMIT;
 use tl_height::Heights;
@@ -21,12 +21,22 @@ fn drawing(alloc: Global, heights: &Heights) -> Option<Vec<u8>> {
     Some(letters)
 }
 
-// The sampler of a region, where it has a tiling.
-fn sampler<'a>(alloc: Global, region: &'a Region, circuit: &Circuit) -> Option<Sampler<'a>>
+// The chain of heights of a region, where it has a tiling, with the bits of a sample.
+fn chain_of_heights<'a>(
+    alloc: Global,
+    region: &'a Region,
+    circuit: &Circuit,
+    seed: u64,
+    number: u32,
+) -> Option<TilingChain<'a, Numbered>>
     requires { IsCircuit region.now circuit.now }
+    ensures { IfSome result (λ chain. chain.low.region ≡ region.now) }
 {
     match extremes(alloc, region, circuit).ok()? {
-        Verdict::Pair { low, high } => Sampler::new(alloc, low, high).ok(),
+        Verdict::Pair { low, high } => {
+            let bits = Numbered::new(seed, number, words_of(&low));
+            TilingChain::new(alloc, low, high, bits).ok()
+        }
         Verdict::Blocked(_) => None,
     }
 }
@@ -39,11 +49,15 @@ fn drawn_twice(alloc: Global, text: &[u8], bound: u32) -> Option<(Drawn, Drawn, 
 {
     let (region, _) = read_region(alloc, text).ok()?;
     let circuit = circuit(alloc, &region).ok()?;
-    let mut sampler = sampler(alloc, &region, &circuit)?;
-    let first = sampler.draw(0, 0, 0);
-    let second = sampler.draw(0, 0, bound);
-    let letters = drawing(alloc, sampler.sample())?;
-    Some((first, second, letters))
+    let mut chain = chain_of_heights(alloc, &region, &circuit, 0, 0)?;
+    match extremes(alloc, &region, &circuit).ok()? {
+        Verdict::Pair { mut low, mut high } => {
+            let first = draw(&mut chain, &mut low, &mut high, 0);
+            let second = draw(&mut chain, &mut low, &mut high, bound);
+            Some((first, second, drawing(alloc, &low)?))
+        }
+        Verdict::Blocked(_) => None,
+    }
 }
 
 fn is_drawn(
@@ -102,7 +116,6 @@ fn samples_of_small_regions(rt: HostRuntime) {
 fn may_go_to_threads<T: Send + Sync>() {}
 
 #[test]
-fn chains_and_samplers_may_go_to_threads() {
+fn chains_may_go_to_threads() {
     may_go_to_threads::<TilingChain<Numbered>>();
-    may_go_to_threads::<Sampler>();
 }

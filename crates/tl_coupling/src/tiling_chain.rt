@@ -33,8 +33,8 @@ pub struct TilingChain<'a, B: Bits> {
     ghost room: { length words.items ≡ words_for (length (inner_corners low.region)) },
 }
 
-// How many words of 32 bits serve the inner corners of the region of these heights.
-pub(crate) fn words_of(heights: &Heights) -> u32
+/// How many words of 32 bits serve the inner corners of the region of these heights.
+pub fn words_of(heights: &Heights) -> u32
     ensures words { result ≡ words_for (length (inner_corners heights.now.region)) }
     ensures few { result ≤ 2 ^ 15 }
     ensures accepted { Accepted heights.now.region }

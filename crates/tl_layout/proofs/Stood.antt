@@ -18,7 +18,7 @@ use Rattle.tl_definitions.proofs.Corners.{corner-same}
 use Rattle.tl_definitions.proofs.InnerNumbers.{inner-among, inner-at}
 use Rattle.tl_grid.specs.Grid.{IsGrid}
 use Rattle.tl_grid.specs.Survey.{inner_places, place_in}
-use Rattle.tl_strings.specs.Strings.{column, IsInside, row_of, slot_of, word_place}
+use Rattle.tl_strings.specs.Strings.{column, row_of, slot_of, word_place}
 use Rattle.tl_layout.specs.declared.layout.Layout.{Layout}
 use Rattle.tl_layout.specs.Layouts.{bit_by, corner_by, IsBetween, IsLayoutOf, size_of, Stands, StandsBy, word_by}
 use Rattle.tl_layout.proofs.Inner.{all-inner, at-inner, inner-by, is_one, one-number, place-at}
@@ -44,26 +44,6 @@ corner-alone k first height size u v a b s t e f =
     let row : u.r ≡ v.r = omega (arith, same.0) in
     let columns : column k u ≡ column k v = omega (arith, same.1, s.column, t.column) in
     corner-same u v row (column-same k u v a b row columns)
-
--- the words beside the slot and beside the slot after it are there
-pub stands-inside : (k : Kind) (first height size : ℕ) (words : List ℕ) (v : Corner) → length words ≡ size → Stands k first height size v
-    → IsInside height words (row_of v) (slot_of k first v) × IsInside height words (row_of v) (slot_of k first v + 1)
-stands-inside k first height size words v e s = (
-  record { not_first = s.slot; row_not_first = row; row_not_last = s.row; not_last = omega (arith, e, s.inside, strips) },
-  record { not_first = omega (arith, s.slot); row_not_first = row; row_not_last = s.row; not_last = omega (arith, e, s.inside) },
-)
-  where
-    row : 1 ≤ row_of v
-    row = omega arith
-
-    less : slot_of k first v / 64 ≤ (slot_of k first v + 1) / 64
-    less = omega arith
-
-    same : height ≤ height
-    same = omega arith
-
-    strips : slot_of k first v / 64 * height ≤ (slot_of k first v + 1) / 64 * height
-    strips = mul-le-mul less same
 
 -- ---- in a layout
 

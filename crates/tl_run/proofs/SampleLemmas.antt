@@ -4,7 +4,7 @@ use Rattle.std.specs.Prelude.{◌⊎◌, nat_lt, MatchBool, IsTrue}
 use Rattle.tl_bits.specs.Bits.{bits_of}
 use Rattle.tl_chain.specs.declared.Drawn.{Drawn}
 use Rattle.tl_chain.specs.declared.Drawn.TheVariants.{At, Late}
-use Rattle.tl_coupling.specs.Drawn.{AreHeightsOfSample}
+use Rattle.tl_sampler.specs.Drawn.{AreHeightsOfSample}
 use Rattle.tl_definitions.specs.declared.Tile.{Tile}
 use Rattle.tl_definitions.specs.Accepted.{IsPlaced}
 use Rattle.tl_definitions.specs.Region.{Region}

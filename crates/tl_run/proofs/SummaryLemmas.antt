@@ -7,7 +7,7 @@ use Rattle.tl_bits.specs.Bits.{bits_of}
 use Rattle.tl_chain.specs.declared.Drawn.{Drawn}
 use Rattle.tl_chain.specs.declared.Drawn.TheVariants.{At}
 use Rattle.tl_closing.proofs.Stated.{has-heights}
-use Rattle.tl_coupling.specs.Drawn.{AreHeightsOfSample}
+use Rattle.tl_sampler.specs.Drawn.{AreHeightsOfSample}
 use Rattle.tl_definitions.specs.declared.Tile.{Tile}
 use Rattle.tl_definitions.specs.Accepted.{Accepted}
 use Rattle.tl_definitions.specs.Flip.{IsBottom}

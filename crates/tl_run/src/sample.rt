@@ -21,12 +21,12 @@ use crate::writers::write_made;
 use std::alloc::{AllocError, Global};
 use tl_boundary::circuit;
 use tl_chain::Drawn;
-use tl_coupling::Sampler;
 use tl_extreme::{Verdict, extremes};
 use tl_formats::INPUT_LIMIT;
 use tl_height::Heights;
 use tl_io::{Sink, WriteFault, write_all};
 use tl_region::Region;
+use tl_sampler::Sampler;
 use tl_text::{SampleJob, sample_head};
 
 /// The most bytes that the drawings of all samples may have: 64 MiB.

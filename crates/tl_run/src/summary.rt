@@ -20,13 +20,13 @@ use crate::status::Status;
 use crate::writers::write_made;
 use std::alloc::{AllocError, Global};
 use tl_chain::Drawn;
-use tl_coupling::Sampler;
 use tl_extreme::Verdict;
 use tl_flip::distance;
 use tl_height::Heights;
 use tl_io::{Sink, WriteFault, write_all};
 use tl_obstruction::Obstruction;
 use tl_region::Region;
+use tl_sampler::Sampler;
 use tl_text::{GenJob, SampleJob, shape_text};
 
 // The region of a shape, whose samples aren't too large.

@@ -1,7 +1,7 @@
 -- Strings of bits: one string for each row, cut in strips of 64 slots. The words of a strip stand one below the other, so
 -- many to a strip as its height tells: word s * height + row has the slots 64 s to 64 s + 63 of a row, and the lowest bit is
 -- the first.
-use Rattle.std.specs.Prelude.{ℕ, ◌+◌, ◌-◌, ◌*◌, ◌/◌, ◌%◌, ◌<◌, ◌≤◌, Bool, ◌==◌, List, length, slice_index}
+use Rattle.std.specs.Prelude.{ℕ, ◌+◌, ◌-◌, ◌*◌, ◌/◌, ◌%◌, Bool, ◌==◌, List, slice_index}
 use Rattle.std.specs.Int.{bit_at}
 use Rattle.tl_definitions.specs.declared.Kind.{Kind}
 use Rattle.tl_definitions.specs.declared.Kind.TheVariants.{Square, Triangle}
@@ -14,14 +14,6 @@ word_place height row slot = slot / 64 * height + row
 -- the bit of a slot of a row
 abbrev pub string_bit : ℕ → List ℕ → ℕ → ℕ → Bool
 string_bit height words row slot = bit_at (slice_index words (word_place height row slot)) (slot % 64) == 1
-
--- A slot whose own word and those beside it are there: it is in no first strip and no last one, in no first row and no last
--- one.
-pub record IsInside (height : ℕ) (words : List ℕ) (row slot : ℕ) : Type 0 where
-  pub not_first : 64 ≤ slot
-  pub row_not_first : 1 ≤ row
-  pub row_not_last : row + 1 < height
-  pub not_last : word_place height row slot + height + 1 < length words
 
 -- ---- where corners stand
 

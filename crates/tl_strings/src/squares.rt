@@ -2,7 +2,7 @@
 
 ghost use Rattle.std.specs.Prelude.{◌≡◌, ◌+◌, ◌%◌, ◌<◌, ◌≤◌, ℕ, length, slice_index};
 ghost use Rattle.tl_strings.specs.Steps.{across, upright};
-ghost use Rattle.tl_strings.specs.Strings.{IsInside, string_bit, word_place};
+ghost use Rattle.tl_strings.specs.Strings.{string_bit, word_place};
 ghost use Rattle.tl_strings.specs.Swept.{IsSwept};
 ghost use Rattle.tl_strings.specs.Words.{IsSquareWord, bit, square_slot};
 
@@ -28,7 +28,7 @@ pub fn step_squares(
     requires range { first ≤ end }
     requires end { end + height ≤ length strings.old }
     ensures len { length strings.new ≡ length strings.old }
-    ensures stepped { (row slot : ℕ) → IsInside height strings.old row slot → first ≤ word_place height row slot
+    ensures stepped { (row slot : ℕ) → 1 ≤ row → 1 ≤ slot → first ≤ word_place height row slot
         → word_place height row slot < end
         → string_bit height strings.new row slot
         ≡ square_slot is_odd height others.now planes.entry.coins.now planes.entry.lows.now planes.entry.free.now row slot (string_bit height strings.old row slot) }

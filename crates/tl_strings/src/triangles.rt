@@ -2,7 +2,7 @@
 
 ghost use Rattle.std.specs.Prelude.{◌≡◌, ◌+◌, ◌%◌, ◌<◌, ◌≤◌, ◌==◌, ℕ, length, slice_index};
 ghost use Rattle.tl_strings.specs.Steps.{all_three};
-ghost use Rattle.tl_strings.specs.Strings.{IsInside, string_bit, word_place};
+ghost use Rattle.tl_strings.specs.Strings.{string_bit, word_place};
 ghost use Rattle.tl_strings.specs.Swept.{IsSwept};
 ghost use Rattle.tl_strings.specs.Words.{IsTriangleWord, bit, triangle_slot};
 
@@ -30,7 +30,7 @@ pub fn step_triangles(
     requires range { first ≤ end }
     requires end { end + height + 1 ≤ length strings.old }
     ensures len { length strings.new ≡ length strings.old }
-    ensures stepped { (row slot : ℕ) → IsInside height strings.old row slot → first ≤ word_place height row slot
+    ensures stepped { (row slot : ℕ) → 1 ≤ row → 1 ≤ slot → first ≤ word_place height row slot
         → word_place height row slot < end
         → string_bit height strings.new row slot
         ≡ triangle_slot class height from.now to.now planes.entry.coins.now planes.entry.lows.now planes.entry.free.now row slot (string_bit height strings.old row slot) }

@@ -1,0 +1,10 @@
+pub mod Inside
+pub mod EndsClasses
+pub mod EndsSeen
+pub mod JoinEnds
+pub mod PartEnds
+pub mod PartStrings
+pub mod Classes
+pub mod Copied
+pub mod Masks
+pub mod Same

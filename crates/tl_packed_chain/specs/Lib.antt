@@ -1,0 +1,3 @@
+pub mod PackedTilings
+pub mod Laws
+pub mod Ready

@@ -1,0 +1,8 @@
+//! Samples of the tilings of a region by coupling from the past, after J. Propp and D. Wilson.
+#![tactic(auto)]
+
+mod sampler;
+#[cfg(test)]
+mod tests;
+
+pub use sampler::Sampler;
