@@ -1,23 +1,8 @@
 -- The histories of a claim board: which caller drew, posted and took which number.
-use Rattle.std.specs.Prelude.{◌≡◌, ℕ, min, ◌<◌, ◌⊎◌, ◌↔◌, Bool, ◌==◌, List, flat_map, slice_index_or, Option, is_some, IsTrue, IsFalse, IsPermutation, nat_le, nat_lt, ◌&&◌, length, true, Some, None}
+use Rattle.std.specs.Prelude.{◌≡◌, ℕ, min, ◌<◌, ◌⊎◌, ◌↔◌, Bool, ◌==◌, List, flat_map, slice_index_or, Option, is_some, IsTrue, IsFalse, IsPermutation, nat_le, nat_lt, ◌&&◌, length, true, Some, None, ◌||◌, All, map}
 use Rattle.std.specs.List.{list_any, list_all}
 use Rattle.tl_lists.specs.Lists.{upto, distinct}
-
--- What a caller knows. `seen` has the numbers for which a look or take of this caller found a word other
--- than 0. `past` is a drawn number that is count or more. `last` is a number, and the word that its last
--- look or take read for it. `reads` counts the looks and takes.
-pub record CallerView (J : Type 0) : Type 0 where
-  pub callers : ℕ
-  pub index : ℕ
-  pub job : J
-  pub count : ℕ
-  pub drawn : List ℕ
-  pub posted : List ℕ
-  pub taken : List ℕ
-  pub seen : List ℕ
-  pub past : Option ℕ
-  pub last : Option (ℕ × ℕ)
-  pub reads : ℕ
+use Rattle.tl_board.specs.declared.views.CallerView.{CallerView}
 
 -- the word of a number: not posted, posted, being taken, taken
 abbrev pub not_posted : ℕ
@@ -56,3 +41,15 @@ pub record IsLawfulHistory {J : Type 0} (views : List (CallerView J)) (count cou
       ↔ ((slice_index_or words n 0 ≡ taking_word) ⊎ (slice_index_or words n 0 ≡ taken_word))
   pub seen : (n : ℕ) → IsTrue (is_member (flat_map (λ c. c.seen) views) n) → slice_index_or words n 0 ≡ not_posted → ⊥
   pub past : IsTrue (list_any (λ c. is_some c.past) views) → min counter count ≡ count
+
+-- the last word that was read, where it is not 0, is of a number among those seen
+abbrev pub last_is_seen : List ℕ → Option (ℕ × ℕ) → Bool
+last_is_seen seen None = true
+last_is_seen seen (Some l) = (l.1 == 0) || is_member seen l.0
+
+-- The views are those of all callers of one board. It says what a lawful history leaves open.
+pub record AreOfOneBoard {J : Type 0} (job : J) (views : List (CallerView J)) : Type 0 where
+  pub one_job : All (λ c. c.job ≡ job) views
+  pub all_callers : IsTrue (list_all (λ c. c.callers == length views) views)
+  pub indexes_once : IsTrue (distinct ◌==◌ (map (λ c. c.index) views))
+  pub lasts_seen : IsTrue (list_all (λ c. last_is_seen c.seen c.last) views)

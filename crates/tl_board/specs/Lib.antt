@@ -1,1 +1,5 @@
 pub mod Board
+pub mod Hands
+pub mod Rule
+pub mod Steps
+pub mod Calls

@@ -1,1 +1,6 @@
 pub mod Border
+pub mod Rows
+pub mod Rule
+pub mod Ends
+pub mod Lines
+pub mod Levels

@@ -1,0 +1,14 @@
+pub mod Totals
+pub mod Moves
+pub mod Draws
+pub mod Known
+pub mod Posts
+pub mod Looks
+pub mod Takes
+pub mod Groups
+pub mod Counts
+pub mod Histories
+pub mod Closes
+pub mod Stated
+pub mod Opens
+pub mod Examples

@@ -1,0 +1,7 @@
+use Rattle.std.proofs.Common.{rules}
+use Rattle.tl_board.specs.Calls.{view}
+use Rattle.tl_board.proofs.Stated.{none_out}
+use Rattle.tl_board.proofs.tests.work.Goals as goal
+
+pub claim-requires-clause-none_out : goal.claim-requires-clause-none_out
+claim-requires-clause-none_out c κs = none_out (view c.index_mut-caller.result.now) (search rules)

@@ -1,0 +1,6 @@
+pub mod Queued
+pub mod Moves
+pub mod Calls
+pub mod HeightTests
+pub mod Examples
+pub mod RuleExamples
