@@ -1,9 +1,13 @@
 -- Histories of a board: one that is lawful, and some near it that aren't.
-use Rattle.std.proofs.Common.{◌≡◌, ℕ, zero, suc, ◌<◌, Bool, true, false, List, [], ◌∷◌, refl, arith, Some, None, inl, inr}
-use Rattle.std.specs.Prelude.{IsTrue, ◌↔◌, ◌⊎◌, slice_index_or, flat_map, ◌==◌}
+use Rattle.std.proofs.Common.{◌≡◌, ℕ, zero, suc, ◌+◌, ◌<◌, Bool, true, false, List, [], ◌∷◌, refl, subst, arith, Some, None, inl, inr}
+use Rattle.std.specs.Prelude.{Option, IsTrue, IsFalse, ◌↔◌, ◌⊎◌, slice_get, slice_index_or, flat_map, ◌==◌}
 use Rattle.std.proofs.lemmas.Bool.{eqb-true}
 use Rattle.std.proofs.lemmas.List.Elements.{All-nil, All-cons}
+use Rattle.std.proofs.lemmas.Option.{same_Some}
 use Rattle.tl_board.specs.declared.views.CallerView.{CallerView}
+use Rattle.tl_board.specs.declared.caller.Left.{Left}
+use Rattle.tl_board.specs.declared.caller.Left.TheVariants.{Unclaimed, Posted, Taken}
+use Rattle.tl_board.specs.Calls.{IsLeftOf, IsClosed}
 use Rattle.tl_board.specs.Board.{IsLawfulHistory, AreOfOneBoard, is_member}
 
 abbrev one : CallerView ℕ
@@ -118,3 +122,71 @@ one_index b = cc b.indexes_once
 
 unread_last : AreOfOneBoard 0 (one ∷ record two { last = Some (0, 3) } ∷ []) → ⊥
 unread_last b = cc b.lasts_seen
+
+-- ---- a board of one number that its one caller drew and posted, when it is closed. A piece is a job and a sum.
+abbrev job_of : ℕ × ℕ → ℕ
+job_of p = p.0
+
+abbrev filled_for : ℕ × ℕ → ℕ → Type 0
+filled_for p n = p.1 ≡ p.0 + n
+
+abbrev alone : CallerView (Option ℕ)
+alone = record { callers = 1; index = 0; job = Some 5; count = 1; drawn = 0 ∷ []; posted = 0 ∷ []; taken = []; seen = []; past = Some 1; last = None; reads = 0 }
+
+abbrev the_word : List ℕ
+the_word = 1 ∷ []
+
+abbrev Closes : List (Left (ℕ × ℕ)) → Type 0
+Closes left = IsClosed job_of filled_for (alone ∷ []) 1 left
+
+closed : Closes (Posted (5, 5) ∷ [])
+closed = record {
+  counter = 2;
+  words = the_word;
+  job = 5;
+  lawful = record {
+    word_count = refl;
+    words_known = refl;
+    views_fit = refl;
+    draws = record { moves = []; below = tt; is = refl };
+    posts_drawn = refl;
+    posts_once = refl;
+    posted = posted;
+    takes_once = refl;
+    taken = taken;
+    seen = λ n e f. cc e;
+    past = λ e. refl;
+  };
+  one_board = record { one_job = All-cons (λ c. c.job ≡ Some 5) alone [] refl (All-nil (λ c. c.job ≡ Some 5)); all_callers = refl; indexes_once = refl; lasts_seen = refl };
+  all_posted = refl;
+  one_each = refl;
+  each_left = each;
+}
+  where
+    posted : (n : ℕ) → n < 1 → (slice_index_or the_word n 0 ≡ 0) ↔ IsFalse (is_member (flat_map (λ c. c.posted) (alone ∷ [])) n)
+    posted zero near = ((λ e. cc e), λ e. cc e)
+    posted (suc n) near = absurd (omega (arith, near))
+
+    taken : (n : ℕ) → IsTrue (is_member (flat_map (λ c. c.taken) (alone ∷ [])) n) ↔ ((slice_index_or the_word n 0 ≡ 2) ⊎ (slice_index_or the_word n 0 ≡ 3))
+    taken zero = ((λ e. cc e), λ e. elim e [ inl f ↦ cc f | inr f ↦ cc f ])
+    taken (suc n) = ((λ e. cc e), λ e. elim e [ inl f ↦ cc f | inr f ↦ cc f ])
+
+    each : (n : ℕ) (l : Left (ℕ × ℕ)) → slice_get (Posted (5, 5) ∷ []) n ≡ Some l → IsLeftOf job_of filled_for (alone ∷ []) n l
+    each zero l e = subst (IsLeftOf job_of filled_for (alone ∷ []) 0) (same_Some (Posted (5, 5)) l e) (refl, refl, All-cons (λ c. c.job ≡ Some 5) alone [] refl (All-nil (λ c. c.job ≡ Some 5)), refl)
+    each (suc n) l e = cc e
+
+-- It leaves what was posted, filled for its number and of the job, and no more.
+not_drawn : Closes (Unclaimed (5, 5) ∷ []) → ⊥
+not_drawn c = cc (c.each_left 0 (Unclaimed (5, 5)) refl).0
+
+not_taken : Closes (Taken ∷ []) → ⊥
+not_taken c = cc (c.each_left 0 Taken refl)
+
+not_filled : Closes (Posted (5, 6) ∷ []) → ⊥
+not_filled c = cc (c.each_left 0 (Posted (5, 6)) refl).3
+
+not_of_the_job : Closes (Posted (6, 6) ∷ []) → ⊥
+not_of_the_job c = cc ((c.each_left 0 (Posted (6, 6)) refl).2 0 alone (omega arith))
+
+not_alone : Closes (Posted (5, 5) ∷ Posted (5, 6) ∷ []) → ⊥
+not_alone c = cc c.one_each

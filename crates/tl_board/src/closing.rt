@@ -42,7 +42,8 @@ impl<P: Piece> Board<P> {
     pub fn close(self, alloc: Global, callers: Vec<Caller<P>>) -> Result<Vec<Left<P>>, AllocError>
         requires callers { (length callers.items ≡ callers_of self) × All (IsCallerOf self) callers.items }
         requires none_out { All (λ c. unposted (view c) ≡ []) callers.items }
-        ensures { IfOk result (λ left. IsClosed P.job P.filled_for (map view callers.items) (count_of self) left.items) }
+        ensures { IfOk result (λ left.
+            IsClosed P.job P.filled_for (map view callers.items) (count_of self) left.items) }
     {
         let Board { table } = self;
         let mut left = Vec::with_capacity(alloc, table.slot_count())?;

@@ -1,9 +1,11 @@
-ghost use Rattle.std.specs.Prelude.{◌≡◌, ◌+◌, ◌<◌, ◌≤◌, length, All, IfOk};
+ghost use Rattle.std.specs.Prelude.{◌≡◌, ◌+◌, ◌<◌, ◌≤◌, map, length, All, IfOk};
 ghost use Rattle.tl_board.specs.Calls.{view, callers_of, IsIdleOf};
 
 use super::*;
 use std::alloc::{AllocError, Global};
 use std::test::Fail;
+use std::thread;
+use std::thread::Threads;
 
 // A number's piece is filled with the sum of the number and the job's start.
 #[derive(Drop)]
@@ -150,5 +152,96 @@ fn what_is_not_claimed_is_left(rt: HostRuntime) -> Result<(), Fail> {
     let (board, callers) = Board::open(rt.alloc(), blanks, 1)?;
     let left = board.close(rt.alloc(), callers)?;
     assert!(rt; matches!(left.as_slice(), [Left::Unclaimed(_)]));
+    Ok(())
+}
+
+// A caller on a thread of its own, and how often it was given each of the two numbers.
+#[derive(Drop)]
+struct Hand {
+    caller: Caller<Sum>,
+    zeros: u32,
+    ones: u32,
+    told: bool,
+}
+
+fn hands_of(alloc: Global, callers: Vec<Caller<Sum>>) -> Result<Vec<Hand>, AllocError>
+    ensures { IfOk result (λ hands. map (λ h. h.caller) hands.items ≡ callers.items) }
+{
+    let mut hands = Vec::with_capacity(alloc, callers.len())?;
+    for caller in callers {
+        hands.push(Hand {
+            caller,
+            zeros: 0,
+            ones: 0,
+            told: false,
+        })?;
+    }
+    Ok(hands)
+}
+
+fn callers_back(alloc: Global, hands: Vec<Hand>) -> Result<Vec<Caller<Sum>>, AllocError>
+    ensures { IfOk result (λ callers. callers.items ≡ map (λ h. h.caller) hands.items) }
+{
+    let mut callers = Vec::with_capacity(alloc, hands.len())?;
+    for hand in hands {
+        callers.push(hand.caller)?;
+    }
+    Ok(callers)
+}
+
+// Claims and posts a number, or is told that there are no more.
+fn turn(board: &Board<Sum>, hand: &mut Hand)
+    requires { IsIdleOf board.now hand.old.caller }
+    ensures { IsIdleOf board.now hand.new.caller }
+{
+    let Some(claim) = board.claim(&mut hand.caller) else {
+        hand.told = true;
+        return;
+    };
+    match claim.number {
+        0 => hand.zeros = hand.zeros.saturating_add(1),
+        _ => hand.ones = hand.ones.saturating_add(1),
+    }
+    board.post(&mut hand.caller, filled(claim));
+}
+
+// Three turns of each, on threads of their own.
+fn work_beside<R: Threads + Sync>(rt: &R, board: &Board<Sum>, hands: &mut [Hand])
+    requires { All (λ h. IsIdleOf board.now h.caller) hands.old }
+    ensures { All (λ h. IsIdleOf board.now h.caller) hands.new }
+{
+    thread::for_each_mut(
+        rt,
+        hands,
+        3,
+        &|_: usize, hand: &mut Hand|
+            requires { IsIdleOf board.now hand.old.caller }
+            ensures { IsIdleOf board.entry.now hand.new.caller }
+        {
+            turn(board, hand);
+            turn(board, hand);
+            turn(board, hand)
+        },
+    );
+}
+
+#[test]
+fn callers_on_three_threads_are_given_each_number_once(rt: HostRuntime) -> Result<(), Fail> {
+    let (board, callers) = open_sums(rt.alloc(), 3)?;
+    let mut hands = hands_of(rt.alloc(), callers)?;
+    work_beside(&rt, &board, hands.as_mut_slice());
+    let (mut zeros, mut ones) = (0u32, 0u32);
+    for hand in &hands {
+        assert!(rt; hand.told);
+        zeros = zeros.saturating_add(hand.zeros);
+        ones = ones.saturating_add(hand.ones);
+    }
+    assert_eq!(rt; (zeros, ones), (1, 1));
+    let callers = callers_back(rt.alloc(), hands)?;
+    let left = board.close(rt.alloc(), callers)?;
+    match left.as_slice() {
+        [Left::Posted(one), Left::Posted(two)] => assert!(rt; one.sum == 5 && two.sum == 6),
+        _ => panic!(rt; "not what is left"),
+    }
     Ok(())
 }

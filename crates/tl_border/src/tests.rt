@@ -1,6 +1,7 @@
-//! Both ends of a border, in turn on one thread.
-ghost use Rattle.std.specs.Prelude.{◌≡◌, IfOk};
-ghost use Rattle.tl_border.specs.Rows.{pair, listed};
+//! Both ends of a border, in turn on one thread, and on a thread each.
+ghost use Rattle.std.specs.Prelude.{◌≡◌, ◌+◌, ◌≤◌, map, pos, IfOk};
+ghost use Rattle.tl_lists.specs.Lists.{upto};
+ghost use Rattle.tl_border.specs.Rows.{pair, listed, rows_of};
 ghost use Rattle.tl_border.specs.Ends.{IsNextToSend, IsSentBy, IsReceivedBy};
 ghost use Rattle.tl_border.specs.Levels.{level, three_up};
 
@@ -9,6 +10,8 @@ use std::alloc::{AllocError, Global};
 use std::process::Abort;
 use std::sync::Wait;
 use std::test::Fail;
+use std::thread;
+use std::thread::{Threads, join};
 
 // Two corners with one number.
 fn level_row(alloc: Global, number: i32) -> Result<Row, AllocError>
@@ -115,5 +118,113 @@ fn a_received_row_is_sent_back(rt: HostRuntime) -> Result<(), Fail> {
     let row = sent_on(&rt, &mut upper, &mut lower, row);
     let row = sent_on(&rt, &mut lower, &mut upper, row);
     assert_level(&rt, &row, 7);
+    Ok(())
+}
+
+// A job that holds nothing. The upper side sends so many rows, each with its number throughout.
+#[derive(Drop)]
+struct Rising {
+    count: u32,
+}
+
+impl RowJob for Rising {
+    ghost use Rattle.tl_border.specs.Levels.{rising};
+
+    ghost rows = { λ job. rising job.count };
+}
+
+fn rising_rows(alloc: Global, count: u32) -> Result<Vec<Row>, AllocError>
+    requires { count ≤ 1000 }
+    ensures { IfOk result (λ rows. map pair rows.items ≡ map (λ n. level (pos n)) (upto count)) }
+{
+    let mut rows = Vec::with_capacity(alloc, count as usize)?;
+    for number in 0..count {
+        rows.push(level_row(alloc, number as i32)?)?;
+    }
+    Ok(rows)
+}
+
+// Sends the next row, again and again until there is room for it.
+fn send_patiently<R: Wait>(rt: &R, end: &mut End, row: Row)
+    requires { IsNextToSend end.old row }
+    ensures job { (end.new.job ≡ end.old.job) × (end.new.side ≡ end.old.side) }
+    ensures sent { end.new.sent ≡ end.old.sent + 1 }
+{
+    let mut row = row;
+    for _ in rt.forever() {
+        match end.send(rt, row) {
+            Ok(()) => return,
+            Err(back) => row = back,
+        }
+        thread::yield_now();
+    }
+    unreachable!()
+}
+
+fn send_all<R: Wait>(rt: &R, mut end: End, rows: Vec<Row>)
+    requires rows { map pair rows.items ≡ rows_of end.job end.side }
+    requires first { end.sent ≡ 0 }
+{
+    for row in rows {
+        send_patiently(rt, &mut end, row);
+    }
+}
+
+// The next row, asked for again and again until it comes.
+fn receive_patiently<R: Wait>(rt: &R, end: &mut End) -> Row {
+    for _ in rt.forever() {
+        if let Some(row) = end.receive(rt) {
+            return row;
+        }
+        thread::yield_now();
+    }
+    unreachable!()
+}
+
+fn is_level(row: &Row, number: i32) -> bool {
+    let wanted = [number, number];
+    row.low.as_slice() == wanted.as_slice() && row.high.as_slice() == wanted.as_slice()
+}
+
+// How many of the rows come in their order.
+fn receive_all<R: Wait>(rt: &R, mut end: End, count: u32) -> u32
+    requires { count ≤ 1000 }
+{
+    let mut in_order = 0;
+    for number in 0..count {
+        let row = receive_patiently(rt, &mut end);
+        if is_level(&row, number as i32) {
+            in_order += 1;
+        }
+    }
+    in_order
+}
+
+// How many of so many rows come in their order from another thread.
+fn relay<R: Threads + Wait + Sync>(rt: &R, alloc: Global, count: u32) -> Result<u32, AllocError>
+    requires { count ≤ 1000 }
+{
+    let job = Rising { count };
+    let rows = rising_rows(alloc, count)?;
+    let Opened {
+        upper,
+        lower,
+        rows: _,
+    } = Border::open(alloc, &job, 2)?;
+    let (_, in_order) = join(
+        rt,
+        move ||
+            requires { (map pair rows.items ≡ rows_of upper.job upper.side) × (upper.sent ≡ 0) }
+        { send_all(rt, upper, rows) },
+        move ||
+            requires { count ≤ 1000 }
+        { receive_all(rt, lower, count) },
+    );
+    Ok(in_order)
+}
+
+#[test]
+fn rows_come_in_order_from_another_thread(rt: HostRuntime) -> Result<(), Fail> {
+    assert_eq!(rt; relay(&rt, rt.alloc(), 300)?, 300);
     Ok(())
 }

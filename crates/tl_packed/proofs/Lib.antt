@@ -4,6 +4,7 @@ pub mod EndsSeen
 pub mod JoinEnds
 pub mod PartEnds
 pub mod PartStrings
+pub mod InnerWords
 pub mod Classes
 pub mod Copied
 pub mod Masks

@@ -50,7 +50,7 @@ module _ (R : Region) (l : Layout) (layout : IsLayoutOf R l) where
         (corner-In v (inner_corners R) (any-inner_corners R v layout.placed ∙ inner))
         (and_from _ _ (eq-eqb _ _ class_is) (and_from _ _ (eq-eqb (row_of v) (row_of v) refl) (eq-eqb (slot_of R.kind l.first v) (slot_of R.kind l.first v) refl)))
 
-    low-has : (row slot : ℕ) → row < l.height → string_bit l.height lows row slot ≡ true → (w : Corner) × (is_inner R w ≡ true) × HasSlot R.kind l.first class row slot w
+    pub low-has : (row slot : ℕ) → row < l.height → string_bit l.height lows row slot ≡ true → (w : Corner) × (is_inner R w ≡ true) × HasSlot R.kind l.first class row slot w
     low-has row slot within set =
         let (w, among, at) = any-In (is_at R.kind l.first class row slot) (inner_corners R) (sym (are.each row slot within) ∙ set) in
         let inner = (In-filter_parts (is_inner R) w (corner_places R) among).1 in

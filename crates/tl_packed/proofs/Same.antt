@@ -2,7 +2,6 @@
 use Rattle.std.proofs.Common.{◌≡◌, ℕ, ◌+◌, ◌*◌, ◌/◌, ◌%◌, ◌<◌, ◌≤◌, true, false, List, length, get_or, refl, sym, ◌∙◌, ap, subst, arith, ℤ}
 use Rattle.std.specs.Prelude.{◌==◌}
 use Rattle.std.proofs.lemmas.List.{get_or_past}
-use Rattle.std.proofs.lemmas.Nat.{div-add-mod'}
 use Rattle.std.proofs.lemmas.Nat.Bits.{bit_at-zero}
 use Rattle.std.proofs.lemmas.Bool.{and_from, and_parts, eqb-true, eq-eqb}
 use Rattle.tl_lists.proofs.Members.{any-In, In-any_of, In-filter_parts}
@@ -27,25 +26,11 @@ use Rattle.tl_packed.specs.OfClasses.{AreLows, of_class, third_size}
 use Rattle.tl_packed.specs.Packs.{IsFramed, Packs}
 use Rattle.tl_packed.proofs.Classes.{by-class}
 use Rattle.tl_packed.proofs.Inside.{row-inside}
+use Rattle.tl_packed.proofs.InnerWords.{HasBit, has-bit}
 
 class-few : (k : Kind) (v : Corner) → class_of k v < classes k
 class-few Square v = omega arith
 class-few Triangle v = omega arith
-
--- the row and the slot of a bit of a word
-record HasBit (height at x row slot : ℕ) : Type 0 where
-  low : row < height
-  word : word_place height row slot ≡ at
-  bit_is : slot % 64 ≡ x
-
-has-bit : (height at x : ℕ) → 0 < height → x < 64 → HasBit height at x (at % height) (at / height * 64 + x)
-has-bit height at x some small =
-    let strip : (at / height * 64 + x) / 64 ≡ at / height = omega (arith, small) in
-    record {
-      low = omega arith;
-      word = ap (λ (n : ℕ). n * height + at % height) strip ∙ div-add-mod' at height;
-      bit_is = omega (arith, small);
-    }
 
 module _ (R : Region) (l : Layout) (lows s t : Strings) (numbers others : List ℤ) (framed : IsFramed R l) (are : AreLows R l lows)
     (packs : Packs R l s numbers) (other_packs : Packs R l t others)

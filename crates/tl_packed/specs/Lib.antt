@@ -4,3 +4,4 @@ pub mod Packs
 pub mod OneTiling
 pub mod PackedTiling
 pub mod Ends
+pub mod Inner

@@ -1,10 +1,13 @@
 //! Both ends of a pair of tilings in one string: joined, and parted again.
 
-ghost use Rattle.std.specs.Prelude.{◌≡◌, ◌≤◌, List, ℤ};
+ghost use Rattle.std.specs.Prelude.{◌≡◌, ◌+◌, ◌<◌, if◌then◌else◌, ℕ, List, ℤ, length};
+ghost use Rattle.tl_strings.specs.Strings.{string_bit, word_place};
 ghost use Rattle.tl_packed.specs.Ends.{AreJoined, AreParted};
+ghost use Rattle.tl_packed.specs.Inner.{AreInner, IsInner};
 ghost use Rattle.tl_packed.specs.OfClasses.{AreLows, AreOfLayout};
 ghost use Rattle.tl_packed.specs.Packs.{HoldEnds};
 
+use crate::inner::inner_words;
 use crate::packed::Packed;
 use crate::strings::Strings;
 use tl_layout::Layout;
@@ -21,17 +24,15 @@ pub fn join_ends(low: &Packed, high: &Packed, both: &mut Strings)
 }
 
 fn join_strings(layout: &Layout, low: &Strings, high: &Strings, both: &mut Strings)
-    requires height { 1 ≤ layout.now.height }
     requires low_size { AreOfLayout layout.now low.now }
     requires high_size { AreOfLayout layout.now high.now }
     requires size { AreOfLayout layout.now both.old }
     ensures { AreJoined layout.now low.now high.now both.new }
 {
     let height = layout.height();
-    both.copy_from(layout, low);
-    join(&mut both.first, &high.first, height);
-    join(&mut both.second, &high.second, height);
-    join(&mut both.third, &high.third, height);
+    join(&low.first, &high.first, &mut both.first, height);
+    join(&low.second, &high.second, &mut both.second, height);
+    join(&low.third, &high.third, &mut both.third, height);
 }
 
 /// Overwrites two tilings by those whose marks the strings hold. `lows` are the slots of the inner corners.
@@ -61,34 +62,60 @@ fn part_strings(
     low: &mut Strings,
     high: &mut Strings,
 )
-    requires height { 1 ≤ layout.now.height }
     requires size { AreOfLayout layout.now both.now }
     requires lows_size { AreOfLayout layout.now lows.now }
     requires low_size { AreOfLayout layout.now low.old }
     requires high_size { AreOfLayout layout.now high.old }
+    requires inner { AreInner layout.now.height lows.now }
     ensures low { AreParted layout.now 0 both.now lows.now low.old low.new }
     ensures high { AreParted layout.now 1 both.now lows.now high.old high.new }
 {
     let height = layout.height();
-    part(
+    part_class(
         &both.first,
-        height,
         &lows.first,
         &mut low.first,
         &mut high.first,
-    );
-    part(
-        &both.second,
         height,
+    );
+    part_class(
+        &both.second,
         &lows.second,
         &mut low.second,
         &mut high.second,
-    );
-    part(
-        &both.third,
         height,
+    );
+    part_class(
+        &both.third,
         &lows.third,
         &mut low.third,
         &mut high.third,
+        height,
     );
+}
+
+// Parts the strings of a class. Strings with no inner words have no slot of an inner corner.
+fn part_class(both: &[u64], lows: &[u64], low: &mut [u64], high: &mut [u64], height: usize)
+    requires both { length both.now ≡ length low.old }
+    requires lows { length lows.now ≡ length low.old }
+    requires high { length high.old ≡ length low.old }
+    requires height { height < usize.MAX }
+    requires inner { IsInner height lows.now }
+    ensures low_len { length low.new ≡ length low.old }
+    ensures high_len { length high.new ≡ length high.old }
+    ensures low { (row slot : ℕ) → word_place height row slot < length low.old
+        → string_bit height low.new row slot
+        ≡ (if string_bit height lows.now row slot
+        then string_bit height both.now row slot
+        else string_bit height low.old row slot) }
+    ensures high { (row slot : ℕ) → word_place height row slot < length low.old
+        → string_bit height high.new row slot
+        ≡ (if string_bit height lows.now row slot
+        then string_bit height both.now row (slot + 1)
+        else string_bit height high.old row slot) }
+{
+    let (first, end) = inner_words(both.len(), height);
+    if first < end {
+        part(both, lows, low, high, height, first, end);
+    }
 }

@@ -3,6 +3,7 @@
 #![tactic(auto)]
 
 mod ends;
+mod inner;
 mod masked;
 mod packed;
 mod strings;

@@ -117,7 +117,7 @@ impl<'a> Packed<'a> {
         requires lows { AreLows self.now.heights.region self.now.layout lows.now }
         ensures { IsTrue result ↔ (self.now ≡ other.now) }
     {
-        classes_agree_under(lows, &self.strings, &other.strings)
+        classes_agree_under(lows, &self.strings, &other.strings, self.layout.height())
     }
 
     /// Overwrites heights by those of the tiling. `spare` is room for their numbers, and holds those of some tiling.

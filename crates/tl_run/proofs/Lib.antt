@@ -6,8 +6,8 @@ mod DrawingLemmas
 mod FlipLemmas
 mod CheckLemmas
 mod StopLemmas
-mod PieceLemmas
-mod PieceExamples
+mod EntryLemmas
+mod EntryExamples
 mod SampleLemmas
 mod SummaryLemmas
 mod RangeLemmas

@@ -13,42 +13,43 @@ use Rattle.tl_text.specs.SampleLine.{sample_line}
 use Rattle.tl_text.specs.declared.SampleJob.{SampleJob}
 use Rattle.tl_run.specs.Answers.{Answer}
 use Rattle.tl_run.specs.Decide.{IsBlocked}
-use Rattle.tl_run.specs.Pieces.{Piece, Pieces, ArePieces, told_pieces, IsInPieces}
-use Rattle.tl_run.specs.Samples.{Texts, on_time, OfOutcome, IsDrawn, DrawnPieces, AreSamples}
-use Rattle.tl_run.specs.Summary.{counts_text, IsRank, IsSpan, IsSummaryHead, IsRanked, RankedPieces, IsSummary}
+use Rattle.tl_outcomes.specs.Entries.{Entry, Entries, Texts, on_time, OfOutcome, IsDrawn, DrawnEntries, IsRank, IsRanked, RankedEntries}
+use Rattle.tl_run.specs.InEntries.{AreEntries, told_entries, IsInEntries}
+use Rattle.tl_run.specs.Samples.{AreSamples}
+use Rattle.tl_run.specs.Summary.{counts_text, IsSpan, IsSummaryHead, IsSummary}
 
--- ---- pieces
+-- ---- entries
 
-one-list : (P : Pieces) (n : ℕ) (ps qs : List Piece) → ((m : ℕ) (p q : Piece) → P m p → P m q → p ≡ q) → length ps ≡ length qs → ArePieces P n ps → ArePieces P n qs
+one-list : (P : Entries) (n : ℕ) (ps qs : List Entry) → ((m : ℕ) (p q : Entry) → P m p → P m q → p ≡ q) → length ps ≡ length qs → AreEntries P n ps → AreEntries P n qs
     → ps ≡ qs
 one-list P n [] [] one e a b = refl
 one-list P n [] (q ∷ qs) one e a b = absurd (omega (arith, e))
 one-list P n (p ∷ ps) [] one e a b = absurd (omega (arith, e))
 one-list P n (p ∷ ps) (q ∷ qs) one e a b =
-    ap (λ (x : Piece). x ∷ ps) (one n p q a.0 b.0) ∙ ap (λ (xs : List Piece). q ∷ xs) (one-list P (n + 1) ps qs one (omega (arith, e)) a.1 b.1)
+    ap (λ (x : Entry). x ∷ ps) (one n p q a.0 b.0) ∙ ap (λ (xs : List Entry). q ∷ xs) (one-list P (n + 1) ps qs one (omega (arith, e)) a.1 b.1)
 
-one-told : (P : Pieces) (head : List ℕ) (count : ℕ) (a b : Answer) → ((m : ℕ) (p q : Piece) → P m p → P m q → p ≡ q) → IsInPieces P head count a
-    → IsInPieces P head count b → a ≡ b
+one-told : (P : Entries) (head : List ℕ) (count : ℕ) (a b : Answer) → ((m : ℕ) (p q : Entry) → P m p → P m q → p ≡ q) → IsInEntries P head count a
+    → IsInEntries P head count b → a ≡ b
 one-told P head count a b one s t =
-    s.is ∙ ap (told_pieces head) (one-list P 0 s.pieces t.pieces one (s.count_is ∙ sym t.count_is) s.each t.each) ∙ sym t.is
+    s.is ∙ ap (told_entries head) (one-list P 0 s.entries t.entries one (s.count_is ∙ sym t.count_is) s.each t.each) ∙ sym t.is
 
--- Where a start and a sample have one text, a number has one piece.
-one-piece : (R : Region) (job : SampleJob) (Text : Texts) → ((n T : ℕ) (S : List Tile) (l m : List ℕ) → Text n T S l → Text n T S m → l ≡ m)
-    → (n : ℕ) (p q : Piece) → OfOutcome R job Text n p → OfOutcome R job Text n q → p ≡ q
-one-piece R job Text one n p q (inl (T, S, s, l, is, e)) (inl (U, V, t, m, are, f)) =
+-- Where a start and a sample have one text, a number has one entry.
+one-entry : (R : Region) (job : SampleJob) (Text : Texts) → ((n T : ℕ) (S : List Tile) (l m : List ℕ) → Text n T S l → Text n T S m → l ≡ m)
+    → (n : ℕ) (p q : Entry) → OfOutcome R job Text n p → OfOutcome R job Text n q → p ≡ q
+one-entry R job Text one n p q (inl (T, S, s, l, is, e)) (inl (U, V, t, m, are, f)) =
     let start : T ≡ U = sample-one_start R (bits_of R job.seed n) job.bound T U S V s t in
     let sample : S ≡ V = sample-one R (bits_of R job.seed n) job.bound T U S V s t in
     let moved : Text n U V l = subst (λ (A : List Tile). Text n U A l) sample (subst (λ (k : ℕ). Text n k S l) start is) in
     e ∙ ap on_time (one n U V l m moved are) ∙ sym f
-one-piece R job Text one n p q (inl (T, S, s, l, is, e)) (inr (late, f)) = absurd (sample-not_late R (bits_of R job.seed n) job.bound T S s late)
-one-piece R job Text one n p q (inr (late, e)) (inl (T, S, s, l, is, f)) = absurd (sample-not_late R (bits_of R job.seed n) job.bound T S s late)
-one-piece R job Text one n p q (inr (late, e)) (inr (also, f)) = e ∙ sym f
+one-entry R job Text one n p q (inl (T, S, s, l, is, e)) (inr (late, f)) = absurd (sample-not_late R (bits_of R job.seed n) job.bound T S s late)
+one-entry R job Text one n p q (inr (late, e)) (inl (T, S, s, l, is, f)) = absurd (sample-not_late R (bits_of R job.seed n) job.bound T S s late)
+one-entry R job Text one n p q (inr (late, e)) (inr (also, f)) = e ∙ sym f
 
 -- ---- samples
 
 pub one-reply : (R : Region) (job : SampleJob) (a b : Answer) → AreSamples R job a → AreSamples R job b → a ≡ b
 one-reply R job a b s t =
-    one-told (DrawnPieces R job) [] job.count a b (one-piece R job (IsDrawn R) (λ n T S l m is are. is ∙ sym are)) s.1 t.1
+    one-told (DrawnEntries R job) [] job.count a b (one-entry R job (IsDrawn R) (λ n T S l m is are. is ∙ sym are)) s.1 t.1
 
 -- and where there are samples there is no reason for having none
 no-reason : (R : Region) (job : SampleJob) (a b : Answer) → AreSamples R job a → IsBlocked R b → ⊥
@@ -79,5 +80,5 @@ module _ (R : Region) (accepted : Accepted R) where
 
   pub one-summary : (job : SampleJob) (a b : Answer) → IsSummary R job a → IsSummary R job b → a ≡ b
   one-summary job a b (l, head, s) (m, other, t) =
-      one-told (RankedPieces R job) m job.count a b (one-piece R job (IsRanked R) one-line)
-      (subst (λ (k : List ℕ). IsInPieces (RankedPieces R job) k job.count a) (one-head l m head other) s) t
+      one-told (RankedEntries R job) m job.count a b (one-entry R job (IsRanked R) one-line)
+      (subst (λ (k : List ℕ). IsInEntries (RankedEntries R job) k job.count a) (one-head l m head other) s) t

@@ -20,10 +20,11 @@ use Rattle.tl_run.specs.Decide.{tiled, blocked, Decided, RegionReply, DecideRepl
 use Rattle.tl_run.specs.Flips.{TwoDrawings, flips_text, too_long, told_path, IsPathAnswer, FlipsReply, told_distance, IsDistanceAnswer, DistanceReply}
 use Rattle.tl_run.specs.Refute.{refuted, not_refuted, Judged, ReasonReply, RefuteReply}
 use Rattle.tl_run.specs.declared.sample.TheConstants.{SAMPLES_LIMIT}
-use Rattle.tl_run.specs.Samples.{DrawnPieces, samples_size, too_large as samples_too_large, WithinLimit, OfSampled, Sampled, SampleReply}
+use Rattle.tl_run.specs.Samples.{samples_size, too_large as samples_too_large, WithinLimit, OfSampled, Sampled, SampleReply}
 use Rattle.tl_run.specs.Generate.{ShapeReply, GenReply}
-use Rattle.tl_run.specs.Pieces.{Pieces, IsInPieces, pieces_text, told_pieces}
-use Rattle.tl_run.specs.Summary.{counts_text, reason_line, RankedPieces, Summarized, SummaryReply}
+use Rattle.tl_outcomes.specs.Entries.{Entries, DrawnEntries, RankedEntries}
+use Rattle.tl_run.specs.InEntries.{IsInEntries, entries_text, told_entries}
+use Rattle.tl_run.specs.Summary.{counts_text, reason_line, Summarized, SummaryReply}
 use Rattle.tl_run.specs.Replies.{meaning_of, reads_input, Answers}
 use Rattle.tl_run.proofs.ReaderLemmas.{IsHeard, Is-heard, OfInput-heard, OfRegion-heard, OfDrawing-heard, OfObstruction-heard, AtEnd-heard}
 
@@ -101,15 +102,15 @@ OfSampled-heard job text P a next =
     go R true e = Is-heard (samples_too_large (samples_size R job)) a refl e
     go R false q = next R q
 
-IsInPieces-heard : (P : Pieces) (head : List ℕ) (count : ℕ) (a : Answer) → IsInPieces P head count a → IsHeard a
-IsInPieces-heard P head count a s = Is-heard (told_pieces head s.pieces) a (go (list_any (λ p. p.is_late) s.pieces)) s.is
+IsInEntries-heard : (P : Entries) (head : List ℕ) (count : ℕ) (a : Answer) → IsInEntries P head count a → IsHeard a
+IsInEntries-heard P head count a s = Is-heard (told_entries head s.entries) a (go (list_any (λ p. p.is_late) s.entries)) s.is
   where
-    go : (b : Bool) → IsHeard (answer (head ++ pieces_text s.pieces) (if b then 7 else 0))
+    go : (b : Bool) → IsHeard (answer (head ++ entries_text s.entries) (if b then 7 else 0))
     go true = refl
     go false = refl
 
 Sampled-heard : (R : Region) (job : SampleJob) (a : Answer) → Sampled R job a → IsHeard a
-Sampled-heard R job a (inl (some, s)) = IsInPieces-heard (DrawnPieces R job) [] job.count a s
+Sampled-heard R job a (inl (some, s)) = IsInEntries-heard (DrawnEntries R job) [] job.count a s
 Sampled-heard R job a (inr (o, reason, e)) = Is-heard (blocked o) a refl e
 
 SampleReply-heard : (job : SampleJob) (input : List ℕ) (a : Answer) → SampleReply job input a → IsHeard a
@@ -118,7 +119,7 @@ SampleReply-heard job input a = OfSampled-heard job input (λ R. Sampled R job) 
 -- ---- gen
 
 Summarized-heard : (R : Region) (job : SampleJob) (a : Answer) → Summarized R job a → IsHeard a
-Summarized-heard R job a (inl (head, is, s)) = IsInPieces-heard (RankedPieces R job) head job.count a s
+Summarized-heard R job a (inl (head, is, s)) = IsInEntries-heard (RankedEntries R job) head job.count a s
 Summarized-heard R job a (inr (o, reason, e)) = Is-heard (answer (counts_text R ++ reason_line o) 1) a refl e
 
 GenReply-heard : (gen : GenJob) (a : Answer) → GenReply gen a → IsHeard a

@@ -11,7 +11,8 @@ use Rattle.tl_formats.specs.Texts.{line}
 use Rattle.tl_formats.proofs.Cases.{drawn as drawn_tiles, gathers_from}
 use Rattle.tl_text.specs.declared.SampleJob.{SampleJob}
 use Rattle.tl_run.specs.Answers.{Answer, answer}
-use Rattle.tl_run.specs.Samples.{on_time, AreSamples}
+use Rattle.tl_outcomes.specs.Entries.{on_time}
+use Rattle.tl_run.specs.Samples.{AreSamples}
 use Rattle.tl_run.proofs.OneReply.{one-reply}
 
 abbrev domino : Region
@@ -48,7 +49,7 @@ unfolding digits
 sampled_two = (
   (level, refl),
   record {
-    pieces = on_time first_text ∷ on_time second_text ∷ [];
+    entries = on_time first_text ∷ on_time second_text ∷ [];
     count_is = refl;
     each = (
       inl (1, level, sample_domino (bits_of domino 7 0), first_text, refl, refl),

@@ -34,3 +34,8 @@ Makes-allowed (Err Memory) P p a e = absurd e
 pub OnErr-passed : {T E P : Type 0} (r : Result T E) → P → OnErr r P
 OnErr-passed (Ok x) p = tt
 OnErr-passed (Err e) p = p
+
+-- an error of which two things are said
+pub OnErr-both : {T E P Q X : Type 0} (r : Result T E) → (P → Q → X) → OnErr r P → OnErr r Q → OnErr r X
+OnErr-both (Ok x) f p q = tt
+OnErr-both (Err e) f p q = f p q

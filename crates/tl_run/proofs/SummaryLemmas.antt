@@ -1,77 +1,25 @@
--- Ranks, the span, and that the texts of shapes are short enough to be read.
-use Rattle.std.proofs.Common.{◌≡◌, ℕ, zero, suc, ◌+◌, ◌-◌, ◌*◌, ◌<◌, ◌≤◌, lit≤, Bool, true, false, Some, List, [], ◌∷◌, ◌++◌, length, flat_map, refl, ap, subst, arith, ◌∙◌, append-nil, length-append, add-one}
-use Rattle.std.specs.Prelude.{nat_lt, if◌then◌else◌, IsTrue, replicate}
+-- The span, and that the texts of shapes are short enough to be read.
+use Rattle.std.proofs.Common.{◌≡◌, ℕ, zero, suc, ◌+◌, ◌-◌, ◌*◌, ◌<◌, ◌≤◌, lit≤, Bool, true, false, List, [], ◌∷◌, ◌++◌, length, flat_map, ap, subst, arith, ◌∙◌, append-nil, length-append, add-one}
+use Rattle.std.specs.Prelude.{nat_lt, if◌then◌else◌, replicate}
 use Rattle.std.proofs.lemmas.Grind.{flat_map-append}
 use Rattle.std.proofs.lemmas.List.{length-replicate}
-use Rattle.tl_bits.specs.Bits.{bits_of}
-use Rattle.tl_chain.specs.declared.Drawn.{Drawn}
-use Rattle.tl_chain.specs.declared.Drawn.TheVariants.{At}
-use Rattle.tl_closing.proofs.Stated.{has-heights}
-use Rattle.tl_sampler.specs.Drawn.{AreHeightsOfSample}
-use Rattle.tl_definitions.specs.declared.Tile.{Tile}
-use Rattle.tl_definitions.specs.Accepted.{Accepted}
-use Rattle.tl_definitions.specs.Flip.{IsBottom}
 use Rattle.tl_definitions.specs.Region.{Region}
-use Rattle.tl_definitions.specs.Tiling.{is_tiling}
 use Rattle.tl_extreme.specs.Verdicts.{AreBottomHeights, AreTopHeights}
 use Rattle.tl_flip.specs.Flips.{IsDistanceBetween}
 use Rattle.tl_formats.specs.Texts.{line}
 use Rattle.tl_formats.specs.declared.TheConstants.{INPUT_LIMIT}
 use Rattle.tl_height.specs.HeightFunction.{HeightFunction}
-use Rattle.tl_io.specs.States.{SinkState}
-use Rattle.tl_lawful.proofs.Stated.{distance}
 use Rattle.tl_lists.specs.Lists.{upto}
 use Rattle.tl_lists.proofs.Members.{upto_more}
-use Rattle.tl_text.specs.SampleLine.{sample_line}
 use Rattle.tl_text.specs.Shapes.{header, hexagon_columns, row_columns, row_count, row_text, shape_text}
 use Rattle.tl_text.specs.Words.{max_order}
-use Rattle.tl_text.specs.declared.SampleJob.{SampleJob}
 use Rattle.tl_text.specs.declared.Shape.{Shape}
 use Rattle.tl_text.specs.declared.Shape.TheVariants.{Aztec, Hexagon, Staircase, Hourglass}
-use Rattle.tl_run.specs.Pieces.{Piece}
-use Rattle.tl_run.specs.Summary.{IsRank, IsSpan, IsRanked, RankedPieces}
-use Rattle.tl_run.specs.Writing.{Appends, Cuts}
-use Rattle.tl_run.specs.WritingSamples.{WritesPiece, CutsPiece}
-use Rattle.tl_run.proofs.SampleLemmas.{some-piece, text-cut, text-written}
+use Rattle.tl_run.specs.Summary.{IsSpan}
 
--- ---- ranks
-
--- each tiling has a rank
-has-rank : (R : Region) (B S : List Tile) → Accepted R → IsBottom R B → IsTrue (is_tiling R S) → (rank : ℕ) × IsRank R S rank
-has-rank R B S accepted bottom tiling =
-    let (low, low_heights, low_only) = has-heights R B accepted bottom.tiling in
-    let (here, heights, only) = has-heights R S accepted tiling in
-    let (n, gap, least) = distance R S here accepted tiling heights B low bottom.tiling low_heights in
-    (n, (B, bottom, least))
+-- ---- the span
 
 module _ (R : Region) (low : HeightFunction) (b : AreBottomHeights R low) where
-  -- each number has a piece
-  pub some-ranked : (job : SampleJob) → Accepted R → (n : ℕ) → (p : Piece) × RankedPieces R job n p
-  some-ranked job accepted =
-      some-piece R job (IsRanked R) accepted.placed (b.tiles, b.bottom.tiling)
-      (λ n T S tiling. let (rank, is) = has-rank R b.tiles S accepted b.bottom tiling in (sample_line n (Some T) (Some rank), (rank, is, refl)))
-
-  rank-told : (bits : ℕ → ℕ → Bool) (bound T : ℕ) (h : HeightFunction) (rank : ℕ) → (s : AreHeightsOfSample R bits bound T h)
-      → IsDistanceBetween low.region low.numbers h.numbers rank → IsRank R s.tiles rank
-  rank-told bits bound T h rank s d = (
-    b.tiles,
-    b.bottom,
-    subst (λ (Q : Region). IsDistanceBetween Q low.numbers h.numbers rank) b.region d b.tiles s.tiles (b.bottom.tiling, b.heights) (s.sample.tiling, s.heights),
-  )
-
-  module _ (job : SampleJob) (n T rank : ℕ) (h k : HeightFunction) (s : AreHeightsOfSample R (bits_of R job.seed n) job.bound T h) (same : k ≡ h) (d : IsDistanceBetween low.region low.numbers k.numbers rank) (sink sink' : SinkState) where
-    abbrev told : List ℕ
-    told = sample_line n (Some T) (Some rank)
-
-    ranked : IsRanked R n T s.tiles told
-    ranked = (rank, rank-told (bits_of R job.seed n) job.bound T h rank s (subst (λ (f : HeightFunction). IsDistanceBetween low.region low.numbers f.numbers rank) same d), refl)
-
-    pub ranked-cut : Cuts told sink sink' → CutsPiece (RankedPieces R job) n sink sink'
-    ranked-cut = text-cut R job (IsRanked R) n sink sink' T s.tiles told s.sample ranked
-
-    pub ranked-written : (draw : Drawn) → draw ≡ At T → Appends told sink sink' → WritesPiece (RankedPieces R job) n draw sink sink'
-    ranked-written = text-written R job (IsRanked R) n sink sink' T s.tiles told s.sample ranked
-
   pub span-told : (high : HeightFunction) (span : ℕ) → (t : AreTopHeights R high) → IsDistanceBetween low.region low.numbers high.numbers span → IsSpan R span
   span-told high span t d = (
     t.tiles,

@@ -106,3 +106,16 @@ Writing-stopped P out sink sink' written begun = record {
   stopped = λ e. inr begun;
   silence = λ e h. cc h;
 }
+
+-- memory was wanted before anything was written
+pub Writing-silent : (P : Allows) (sink : SinkState) → Writing P true sink sink 6
+Writing-silent P sink = record {
+  out = [];
+  held = sym (append_known-nil sink.held);
+  whole = λ h. cc h;
+  steady = λ h. refl;
+  cut = λ e. cc e;
+  failed = λ e. cc e;
+  stopped = λ e. inl refl;
+  silence = λ e h. refl;
+}

@@ -11,9 +11,9 @@ pub mod Statuses
 pub mod Replying
 pub mod Decide
 pub mod Flips
-pub mod Pieces
+pub mod InEntries
 pub mod Samples
 pub mod Ranges
-pub mod WritingSamples
+pub mod Draws
 pub mod Summary
 pub mod Generate

@@ -1,50 +1,21 @@
 -- What `sample` answers: the numbered samples of a region, each with its start, or why the region has no tiling.
-use Rattle.std.specs.Prelude.{◌≡◌, ◌⊎◌, ℕ, ◌+◌, ◌*◌, true, false, nat_lt, List, [], ◌∷◌, ◌++◌, Some, None, MatchBool, codes, decimal}
-use Rattle.tl_bits.specs.Bits.{bits_of}
-use Rattle.tl_definitions.specs.declared.Tile.{Tile}
+use Rattle.std.specs.Prelude.{◌≡◌, ◌⊎◌, ℕ, ◌+◌, ◌*◌, true, false, nat_lt, List, [], ◌∷◌, MatchBool, codes, decimal}
 use Rattle.tl_definitions.specs.Region.{Region}
-use Rattle.tl_definitions.specs.Sweep.{IsSample, IsLate}
 use Rattle.tl_definitions.specs.Tiling.{HasTiling}
-use Rattle.tl_formats.specs.Drawing.{drawing}
 use Rattle.tl_formats.specs.Input.{first_section, rest_is_empty}
 use Rattle.tl_formats.specs.RegionText.{IsRegionText}
 use Rattle.tl_formats.specs.Texts.{line}
-use Rattle.tl_text.specs.SampleLine.{sample_line}
+use Rattle.tl_outcomes.specs.Entries.{DrawnEntries}
 use Rattle.tl_text.specs.declared.SampleJob.{SampleJob}
 use Rattle.tl_run.specs.declared.sample.TheConstants.{SAMPLES_LIMIT}
 use Rattle.tl_run.specs.Answers.{Answer, answer, Allows, Is}
 use Rattle.tl_run.specs.Decide.{IsBlocked}
-use Rattle.tl_run.specs.Pieces.{Piece, Pieces, IsInPieces}
+use Rattle.tl_run.specs.InEntries.{IsInEntries}
 use Rattle.tl_run.specs.Readers.{OfRegion, AtEnd}
-
--- ---- one sample
-
--- which texts the sample of a number may have, by its number, its start and its tiling
-abbrev pub Texts : Type 1
-Texts = ℕ → ℕ → List Tile → List ℕ → Type 0
-
-abbrev pub on_time : List ℕ → Piece
-on_time text = record { text = text; is_late = false }
-
-abbrev pub too_late : ℕ → Piece
-too_late n = record { text = sample_line n None None; is_late = true }
-
--- a text of the sample of a number; or that it is late
-abbrev pub OfOutcome : Region → SampleJob → Texts → Pieces
-OfOutcome R job Text n p =
-    ((T : ℕ) × (S : List Tile) × IsSample R (bits_of R job.seed n) job.bound T S × (text : List ℕ) × Text n T S text × (p ≡ on_time text))
-    ⊎ (IsLate R (bits_of R job.seed n) job.bound × (p ≡ too_late n))
-
--- the head line of a sample, with its start, and its drawing
-abbrev pub IsDrawn : Region → Texts
-IsDrawn R n T S text = text ≡ sample_line n (Some T) None ++ drawing R S
-
-abbrev pub DrawnPieces : Region → SampleJob → Pieces
-DrawnPieces R job = OfOutcome R job (IsDrawn R)
 
 -- the samples of the numbers below the count, each once and in order
 abbrev pub AreSamples : Region → SampleJob → Allows
-AreSamples R job a = HasTiling R × IsInPieces (DrawnPieces R job) [] job.count a
+AreSamples R job a = HasTiling R × IsInEntries (DrawnEntries R job) [] job.count a
 
 -- ---- their size
 

@@ -3,21 +3,21 @@
 --
 -- The region is the one that the text of the shape is of, read as an input is. Nothing here says that no such text is
 -- refused: were one refused, the answer would be that of an input.
-use Rattle.std.specs.Prelude.{◌≡◌, ◌⊎◌, ℕ, List, [], ◌∷◌, ◌++◌, length, Some, codes, decimal}
+use Rattle.std.specs.Prelude.{◌≡◌, ◌⊎◌, ℕ, List, [], ◌∷◌, ◌++◌, length, codes, decimal}
 use Rattle.std.specs.Fmt.{signed_decimal}
 use Rattle.tl_definitions.specs.declared.Tile.{Tile}
-use Rattle.tl_definitions.specs.Flip.{IsBottom, IsTop, IsFlipDistance}
+use Rattle.tl_definitions.specs.Flip.{IsTop}
 use Rattle.tl_definitions.specs.Obstruction.{Obstruction, Open, Gap}
 use Rattle.tl_definitions.specs.Region.{Region, inner_corners}
 use Rattle.tl_extreme.specs.Verdicts.{IsReason}
 use Rattle.tl_formats.specs.Texts.{line}
-use Rattle.tl_text.specs.SampleLine.{sample_line}
+use Rattle.tl_outcomes.specs.Entries.{IsRank, RankedEntries}
 use Rattle.tl_text.specs.Shapes.{shape_text}
 use Rattle.tl_text.specs.declared.GenJob.{GenJob}
 use Rattle.tl_text.specs.declared.SampleJob.{SampleJob}
 use Rattle.tl_run.specs.Answers.{answer, Allows, Is}
-use Rattle.tl_run.specs.Pieces.{Pieces, IsInPieces}
-use Rattle.tl_run.specs.Samples.{Texts, OfOutcome, OfSampled}
+use Rattle.tl_run.specs.InEntries.{IsInEntries}
+use Rattle.tl_run.specs.Samples.{OfSampled}
 
 -- the counts of the cells and of the inner corners
 abbrev pub counts_text : Region → List ℕ
@@ -38,10 +38,6 @@ IsUntiled R a = (o : Obstruction) × IsReason R o × Is (answer (counts_text R +
 
 -- ---- a region with a tiling
 
--- the flip distance from the bottom tiling to this one
-abbrev pub IsRank : Region → List Tile → ℕ → Type 0
-IsRank R S rank = (B : List Tile) × IsBottom R B × IsFlipDistance R B S rank
-
 -- the flip distance from the bottom tiling to the top tiling
 abbrev pub IsSpan : Region → ℕ → Type 0
 IsSpan R span = (A : List Tile) × IsTop R A × IsRank R A span
@@ -51,16 +47,9 @@ abbrev pub IsSummaryHead : Region → List ℕ → Type 0
 IsSummaryHead R head =
     (span : ℕ) × IsSpan R span × (head ≡ counts_text R ++ line (codes "span" ∷ decimal span ∷ []))
 
--- the head line of a sample, with its start and its rank
-abbrev pub IsRanked : Region → Texts
-IsRanked R n T S text = (rank : ℕ) × IsRank R S rank × (text ≡ sample_line n (Some T) (Some rank))
-
-abbrev pub RankedPieces : Region → SampleJob → Pieces
-RankedPieces R job = OfOutcome R job (IsRanked R)
-
 -- the head, and a line for each number below the count, once and in order
 abbrev pub IsSummary : Region → SampleJob → Allows
-IsSummary R job a = (head : List ℕ) × IsSummaryHead R head × IsInPieces (RankedPieces R job) head job.count a
+IsSummary R job a = (head : List ℕ) × IsSummaryHead R head × IsInEntries (RankedEntries R job) head job.count a
 
 -- ---- the reply
 

@@ -57,7 +57,7 @@ fn borrowed(alloc: Global, words: &[String]) -> Result<Vec<&str>, AllocError>
 
 // Runs the program on the words of the command line, as `run_quiet` does. That it does so with some words is proved:
 // the runtime promises nothing of its arguments.
-fn run_command_line<R: Env + Threads, S: Source, K: Sink + Send, G: Gate + Sync>(
+fn run_command_line<R: Env + Threads + Sync, S: Source, K: Sink + Send, G: Gate + Sync>(
     rt: &R,
     alloc: Global,
     source: &mut S,
@@ -80,7 +80,7 @@ fn run_command_line<R: Env + Threads, S: Source, K: Sink + Send, G: Gate + Sync>
 /// with the number of the status.
 pub fn run_process<R>(rt: R) -> ExitCode
 where
-    R: Env + Threads + Input + Print + AllocGlobal + Copy + Drop + Send,
+    R: Env + Threads + Input + Print + AllocGlobal + Copy + Drop + Send + Sync,
 {
     let mut source = StdSource::new(rt);
     let mut sink = StdSink::new(rt);

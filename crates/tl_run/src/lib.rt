@@ -4,6 +4,7 @@
 mod check;
 mod command_line;
 mod decide;
+mod draws;
 mod flips;
 mod generate;
 mod path_text;

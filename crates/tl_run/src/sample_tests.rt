@@ -3,20 +3,33 @@
 use crate::run::run_quiet;
 use crate::status::Status;
 use std::alloc::{AllocError, Global};
+use std::sync::atomic::{AtomicU64, Ordering};
 use std::thread::Threads;
-use tl_io::{FreeGate, MemSink, MemSource};
+use tl_io::{FreeGate, Gate, MemSink, MemSource};
 
 const TWO: &[u8] = b"square\n##\n##\n";
 
 const FOUR: &[u8] = b"square\n####\n####\n";
 
 // The status of `sample` with these options on an input, and what it wrote to a sink with so much room.
-fn sampled<R: Threads>(
+fn sampled<R: Threads + Sync>(
     rt: &R,
     alloc: Global,
     options: &[&str],
     input: &[u8],
     room: usize,
+) -> Result<(Status, MemSink), AllocError> {
+    sampled_under(rt, alloc, options, input, room, &FreeGate)
+}
+
+// The same under a gate.
+fn sampled_under<R: Threads + Sync, G: Gate + Sync>(
+    rt: &R,
+    alloc: Global,
+    options: &[&str],
+    input: &[u8],
+    room: usize,
+    gate: &G,
 ) -> Result<(Status, MemSink), AllocError> {
     let mut words = Vec::new(alloc);
     words.push("sample")?;
@@ -24,7 +37,7 @@ fn sampled<R: Threads>(
     let bytes = Vec::from_slice(alloc, input)?;
     let mut source = MemSource::new(bytes, 1000, Vec::new(alloc));
     let mut sink = MemSink::new(alloc, room, 7, Vec::new(alloc))?;
-    let status = run_quiet(rt, alloc, &words, &mut source, &mut sink, &FreeGate);
+    let status = run_quiet(rt, alloc, &words, &mut source, &mut sink, gate);
     Ok((status, sink))
 }
 
@@ -104,7 +117,7 @@ fn full(alloc: Global, rows: usize, columns: usize) -> Result<Vec<u8>, AllocErro
 }
 
 // The reply to so many samples of so many rows and columns of cells, which this text follows.
-fn of_full<R: Threads>(
+fn of_full<R: Threads + Sync>(
     rt: &R,
     alloc: Global,
     count: &str,
@@ -170,5 +183,98 @@ fn a_failed_write_cuts_the_samples(rt: HostRuntime) -> Result<(), AllocError> {
         assert_eq!(rt; sink.held(), &whole.held()[..room], "{room}");
         assert_eq!(rt; status, Status::WriteFault, "{room}");
     }
+    Ok(())
+}
+
+#[test]
+fn workers_change_no_byte(rt: HostRuntime) -> Result<(), AllocError> {
+    let alone: [&str; 4] = ["--count", "9", "--bound", "1"];
+    let (status, whole) = sampled(&rt, rt.alloc(), &alone, FOUR, 300)?;
+    assert_eq!(rt; status, Status::Late);
+    for workers in ["2", "4", "16"] {
+        let options = ["--count", "9", "--bound", "1", "--workers", workers];
+        let (status, sink) = sampled(&rt, rt.alloc(), &options, FOUR, 300)?;
+        assert_eq!(rt; sink.held(), whole.held(), "{workers}");
+        assert_eq!(rt; status, Status::Late, "{workers}");
+        let (status, cut) = sampled(&rt, rt.alloc(), &options, FOUR, 50)?;
+        assert!(rt; whole.held().starts_with(cut.held()), "{workers}");
+        assert_eq!(rt; cut.held().len(), 50, "{workers}");
+        assert_eq!(rt; status, Status::WriteFault, "{workers}");
+    }
+    Ok(())
+}
+
+// Holds sample 1 until sample 0 is about to be drawn, and that until sample 1 is posted: so two workers draw at once.
+#[derive(Drop)]
+struct CrossedGate {
+    // 0, then 1 after a pass, and 2 after it was posted
+    first: AtomicU64,
+    second: AtomicU64,
+    // calls out of their order, and holds whose turns ran out
+    wrong: AtomicU64,
+}
+
+const HOLD_TURNS: u64 = 100_000_000;
+
+impl CrossedGate {
+    fn stage(&self, sample: u32) -> &AtomicU64 {
+        if sample == 0 {
+            &self.first
+        } else {
+            &self.second
+        }
+    }
+
+    fn expect(&self, sample: u32, stage: u64) {
+        if self.stage(sample).fetch_add(1, Ordering::SeqCst) != stage {
+            self.wrong.store(1, Ordering::SeqCst);
+        }
+    }
+
+    // Waits until the other sample has come so far.
+    fn hold(&self, other: u32, stage: u64) {
+        for _ in 0..HOLD_TURNS {
+            if self.stage(other).load(Ordering::SeqCst) >= stage {
+                return;
+            }
+        }
+        self.wrong.store(1, Ordering::SeqCst);
+    }
+}
+
+impl Gate for CrossedGate {
+    fn pass(&self, _worker: u32, sample: u32) {
+        self.expect(sample, 0);
+        if sample == 0 {
+            self.hold(1, 2);
+        } else {
+            self.hold(0, 1);
+        }
+    }
+
+    fn posted(&self, _worker: u32, sample: u32) {
+        self.expect(sample, 1);
+    }
+
+    fn hand(&self, _worker: u32, _hand: u32, _sample: u32) {
+        self.wrong.store(1, Ordering::SeqCst);
+    }
+}
+
+#[test]
+fn two_workers_draw_beside_each_other(rt: HostRuntime) -> Result<(), AllocError> {
+    let gate = CrossedGate {
+        first: AtomicU64::new(0),
+        second: AtomicU64::new(0),
+        wrong: AtomicU64::new(0),
+    };
+    let options = ["--count", "2", "--workers", "2"];
+    let (_, alone) = sampled(&rt, rt.alloc(), &["--count", "2"], TWO, 300)?;
+    let (status, sink) = sampled_under(&rt, rt.alloc(), &options, TWO, 300, &gate)?;
+    assert_eq!(rt; sink.held(), alone.held());
+    assert_eq!(rt; status, Status::Answered);
+    assert_eq!(rt; gate.first.load(Ordering::SeqCst), 2);
+    assert_eq!(rt; gate.second.load(Ordering::SeqCst), 2);
+    assert_eq!(rt; gate.wrong.load(Ordering::SeqCst), 0);
     Ok(())
 }

@@ -1,33 +1,32 @@
 //! The command `gen` with its flag.
 
-ghost use Rattle.std.specs.Prelude.{◌≡◌, ◌≤◌, ◌++◌, true, IfOk, IfErr, OnOk, OnErr};
+ghost use Rattle.std.specs.Prelude.{◌≡◌, ◌≤◌, ◌++◌, true, IfOk, IfErr};
 ghost use Rattle.std.specs.String.{string_bytes};
-ghost use Rattle.tl_definitions.specs.Accepted.{Accepted};
 ghost use Rattle.tl_extreme.specs.Verdicts.{AreBottomHeights, AreTopHeights, IsReason};
 ghost use Rattle.tl_obstruction.specs.Told.{told_by};
+ghost use Rattle.tl_outcomes.specs.Outcomes.{IsWithin};
 ghost use Rattle.tl_text.specs.Shapes.{shape_text as text_of};
 ghost use Rattle.tl_text.specs.Words.{max_order};
 ghost use Rattle.tl_run.specs.Replying.{answer_of, IfRefused};
 ghost use Rattle.tl_run.specs.Samples.{IsSampledText, RefusesSampled};
 ghost use Rattle.tl_run.specs.Statuses.{code_of};
-ghost use Rattle.tl_run.specs.Summary.{counts_text, IsSpan, IsSummary, IsSummaryHead, IsUntiled, RankedPieces, reason_line, SummaryReply};
+ghost use Rattle.tl_run.specs.Summary.{counts_text, IsSummaryHead, IsUntiled, reason_line, SummaryReply};
 ghost use Rattle.tl_run.specs.Writing.{Writing};
-ghost use Rattle.tl_run.specs.WritingSamples.{CutsPiece, WritesPiece};
 
+use crate::draws::write_draws;
 use crate::reply::{Reply, Stop};
-use crate::sample::{region_to_sample, status_with, verdict, write_head};
+use crate::sample::{region_to_sample, verdict};
 use crate::status::Status;
 use crate::writers::write_made;
 use std::alloc::{AllocError, Global};
-use tl_chain::Drawn;
+use std::thread::Threads;
 use tl_extreme::Verdict;
 use tl_flip::distance;
 use tl_height::Heights;
-use tl_io::{Sink, WriteFault, write_all};
+use tl_io::{Gate, Sink};
 use tl_obstruction::Obstruction;
 use tl_region::Region;
-use tl_sampler::Sampler;
-use tl_text::{GenJob, SampleJob, shape_text};
+use tl_text::{GenJob, shape_text};
 
 // The region of a shape, whose samples aren't too large.
 fn region_of_shape(alloc: Global, job: &GenJob) -> Result<Region, Stop>
@@ -96,83 +95,31 @@ fn head_text(
     format!(in alloc; "{counts}span {span}\n")
 }
 
-// Takes all memory that the summary of the region needs: its head, the bottom tiling's heights and the sampler.
+// What the summary of the region begins with, and its bottom and its top tiling.
 fn prepare<'r>(
     alloc: Global,
     region: &'r Region,
-) -> Result<(String, Heights<'r>, Sampler<'r>), Stop>
+) -> Result<(String, Heights<'r>, Heights<'r>), Stop>
     ensures head { IfOk result (λ p. IsSummaryHead region.now (string_bytes p.0)) }
-    ensures bottom { IfOk result (λ p. AreBottomHeights region.now p.1) }
-    ensures region { IfOk result (λ p. p.2.region ≡ region.now) }
-    ensures accepted { OnOk result (Accepted region.now) }
+    ensures low { IfOk result (λ p. AreBottomHeights region.now p.1) }
+    ensures high { IfOk result (λ p. AreTopHeights region.now p.2) }
     ensures refused { IfErr result (λ stop. IfRefused stop (IsUntiled region.now)) }
 {
     let (low, high) = bounds(alloc, region)?;
     let head = head_text(alloc, region, &low, &high)?;
-    let bottom = low.copy(alloc)?;
-    let sampler = Sampler::new(alloc, low, high)?;
-    Ok((head, bottom, sampler))
-}
-
-// Draws a sample and writes its line: its start, and its rank, which is how many flips lead to it from the bottom tiling.
-fn write_ranked<K: Sink>(
-    job: &SampleJob,
-    number: u32,
-    bottom: &Heights,
-    sampler: &mut Sampler,
-    sink: &mut K,
-) -> Result<Drawn, WriteFault>
-    requires bound { job.now.bound ≤ 30 }
-    requires bottom { AreBottomHeights sampler.old.region bottom.now }
-    ensures region { sampler.new.region ≡ sampler.old.region }
-    ensures written { IfOk result (λ drawn. WritesPiece (RankedPieces sampler.old.region job.now) number drawn
-        (K.state sink.old) (K.state sink.new)) }
-    ensures cut { OnErr result (CutsPiece (RankedPieces sampler.old.region job.now) number
-        (K.state sink.old) (K.state sink.new)) }
-{
-    let drawn = sampler.draw(job.seed, number, job.bound);
-    match drawn {
-        Drawn::At(start) => {
-            let rank = distance(bottom, sampler.sample());
-            write_head(number, Some(start), Some(rank), sink)?;
-        }
-        Drawn::Late => write_head(number, None, None, sink)?,
-    }
-    Ok(drawn)
-}
-
-// Writes the head, and then the line of each number below the count before the next is drawn. After a failed write none
-// is drawn. It takes no memory.
-fn write_summary<K: Sink>(
-    job: &SampleJob,
-    head: &str,
-    bottom: &Heights,
-    sampler: &mut Sampler,
-    sink: &mut K,
-) -> Status
-    requires bound { job.now.bound ≤ 30 }
-    requires accepted { Accepted sampler.old.region }
-    requires head { IsSummaryHead sampler.old.region head.now }
-    requires bottom { AreBottomHeights sampler.old.region bottom.now }
-    ensures { Writing (IsSummary sampler.old.region job.now) true (K.state sink.old) (K.state sink.new) (code_of result) }
-{
-    let Ok(()) = write_all(sink, head.as_bytes()) else {
-        return Status::WriteFault;
-    };
-    let mut status = Status::Answered;
-    for number in 0..job.count {
-        let Ok(drawn) = write_ranked(job, number, bottom, sampler, sink) else {
-            return Status::WriteFault;
-        };
-        status = status_with(status, drawn);
-    }
-    status
+    Ok((head, low, high))
 }
 
 /// Answers a shape and its order: writes the summary of that region.
-pub fn summary<K: Sink>(alloc: Global, job: GenJob, sink: &mut K) -> Status
+pub fn summary<R: Threads + Sync, K: Sink, G: Gate + Sync>(
+    rt: &R,
+    alloc: Global,
+    job: GenJob,
+    gate: &G,
+    sink: &mut K,
+) -> Status
     requires order { job.order ≤ max_order job.shape }
-    requires bound { job.job.bound ≤ 30 }
+    requires within { IsWithin job.job }
     ensures { Writing (SummaryReply job) true (K.state sink.old) (K.state sink.new) (code_of result) }
 {
     let region = match region_of_shape(alloc, &job) {
@@ -180,9 +127,17 @@ pub fn summary<K: Sink>(alloc: Global, job: GenJob, sink: &mut K) -> Status
         Err(stop) => return write_made(sink, &Err(stop)),
     };
     match prepare(alloc, &region) {
-        Ok((head, bottom, mut sampler)) => {
-            write_summary(&job.job, head.as_str(), &bottom, &mut sampler, sink)
-        }
+        Ok((head, low, high)) => write_draws(
+            rt,
+            alloc,
+            &low,
+            &high,
+            &job.job,
+            true,
+            head.as_bytes(),
+            gate,
+            sink,
+        ),
         Err(stop) => write_made(sink, &Err(stop)),
     }
 }

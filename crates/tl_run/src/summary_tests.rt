@@ -8,7 +8,7 @@ use tl_io::{FreeGate, MemSink, MemSource, Source, Took};
 
 // The status of `gen --summary` with these options, what it left of its source, and what it wrote to a sink with so
 // much room.
-fn summarized<R: Threads>(
+fn summarized<R: Threads + Sync>(
     rt: &R,
     alloc: Global,
     options: &[&str],
@@ -27,7 +27,7 @@ fn summarized<R: Threads>(
 
 #[test]
 fn each_shape_has_its_summary(rt: HostRuntime) -> Result<(), AllocError> {
-    let cases: [(&[&str], &[u8], Status); 12] = [
+    let cases: [(&[&str], &[u8], Status); 13] = [
         (
             &["--shape", "aztec", "--order", "2"],
             b"cells 12\ncorners 5\nspan 5\nsample 0 start 4 rank 1\n",
@@ -75,6 +75,11 @@ fn each_shape_has_its_summary(rt: HostRuntime) -> Result<(), AllocError> {
         ),
         (
             &["--shape", "aztec", "--order", "16"],
+            b"cells 544\ncorners 481\nspan 1496\nsample 0 start 512 rank 777\n",
+            Status::Answered,
+        ),
+        (
+            &["--shape", "aztec", "--order", "16", "--workers", "4"],
             b"cells 544\ncorners 481\nspan 1496\nsample 0 start 512 rank 777\n",
             Status::Answered,
         ),

@@ -23,7 +23,7 @@ const USAGE: &[u8] = b"usage: tilings check | decide | refute | flips | distance
 ";
 
 // The status of a command on an input, and what it wrote.
-fn answered<R: Threads>(
+fn answered<R: Threads + Sync>(
     rt: &R,
     alloc: Global,
     command: &str,
@@ -36,7 +36,11 @@ fn answered<R: Threads>(
     Ok((status, sink))
 }
 
-fn check<R: Threads>(rt: &R, alloc: Global, input: &[u8]) -> Result<(Status, MemSink), AllocError> {
+fn check<R: Threads + Sync>(
+    rt: &R,
+    alloc: Global,
+    input: &[u8],
+) -> Result<(Status, MemSink), AllocError> {
     answered(rt, alloc, "check", input)
 }
 

@@ -49,15 +49,15 @@ impl<'a> Sampler<'a> {
     pub fn new(
         alloc: Global,
         low: Heights<'a>,
-        high: Heights<'a>,
+        high: &Heights<'a>,
     ) -> Result<Sampler<'a>, AllocError>
-        requires one_region { high.region ≡ low.region }
+        requires one_region { high.now.region ≡ low.region }
         requires bottom { AreLeast low.region low.numbers }
-        requires top { AreGreatest low.region high.numbers }
+        requires top { AreGreatest low.region high.now.numbers }
         ensures region { IfOk result (λ sampler. sampler.region ≡ low.entry.region) }
     {
         let bits = Numbered::new(0, 0, words_of(&low));
-        let chain = PackedChain::new(alloc, &low, &high, bits)?;
+        let chain = PackedChain::new(alloc, &low, high, bits)?;
         Ok(Sampler {
             low: chain.state(alloc)?,
             high: chain.state(alloc)?,

@@ -27,7 +27,7 @@ fn sampler<'a>(alloc: Global, region: &'a Region, circuit: &Circuit) -> Option<S
     requires { IsCircuit region.now circuit.now }
 {
     match extremes(alloc, region, circuit).ok()? {
-        Verdict::Pair { low, high } => Sampler::new(alloc, low, high).ok(),
+        Verdict::Pair { low, high } => Sampler::new(alloc, low, &high).ok(),
         Verdict::Blocked(_) => None,
     }
 }

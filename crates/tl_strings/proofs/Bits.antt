@@ -69,7 +69,10 @@ bit-shr a k i = ap (λ (m : ℕ). m % 2 == 1) (shr-shr a k i)
 bit-above : (a i : ℕ) → a < 2 ^ 64 → 64 ≤ i → bit a i ≡ false
 bit-above a i fits above = ap (λ (d : ℕ). d == 1) (bit_at_above a 64 i fits above)
 
-or_none : (b : Bool) → (b || false) ≡ b
+pub bit-nothing : (i : ℕ) → bit 0 i ≡ false
+bit-nothing i = ap (λ (d : ℕ). d == 1) (bit_at-zero i)
+
+pub or_none : (b : Bool) → (b || false) ≡ b
 or_none true = refl
 or_none false = refl
 
@@ -111,7 +114,7 @@ bit_before-and a b c d place = by (place == 0)
 
 -- ---- choices and steps
 
-choice : (mask one other : Bool) → ((one && mask) || (other && not mask)) ≡ cond mask one other
+pub choice : (mask one other : Bool) → ((one && mask) || (other && not mask)) ≡ cond mask one other
 choice true true true = refl
 choice true true false = refl
 choice true false true = refl
@@ -121,7 +124,7 @@ choice false true false = refl
 choice false false true = refl
 choice false false false = refl
 
-both_ways : (a b : Bool) → (a && b) ≡ (b && a)
+pub both_ways : (a b : Bool) → (a && b) ≡ (b && a)
 both_ways true true = refl
 both_ways true false = refl
 both_ways false true = refl
@@ -163,13 +166,13 @@ pub bit-upright : (here north south place : ℕ) → bit (bit_and (bit_xor north
 bit-upright here north south place =
     bit-and (bit_xor north here) (bit_xor south here) place ∙ (λ t. bit-xor north here place t && bit-xor south here place t)
 
-turned : (a b c : Bool) → c ≡ true → differ a (not b) ≡ differ (differ a b) c
+pub turned : (a b c : Bool) → c ≡ true → differ a (not b) ≡ differ (differ a b) c
 turned true true c e = ap (differ false) (sym e)
 turned true false c e = ap (differ true) (sym e)
 turned false true c e = ap (differ true) (sym e)
 turned false false c e = ap (differ false) (sym e)
 
-plain : (a b c : Bool) → c ≡ false → differ a b ≡ differ (differ a b) c
+pub plain : (a b c : Bool) → c ≡ false → differ a b ≡ differ (differ a b) c
 plain true true c e = ap (differ false) (sym e)
 plain true false c e = ap (differ true) (sym e)
 plain false true c e = ap (differ true) (sym e)

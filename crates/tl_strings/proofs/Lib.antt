@@ -1,4 +1,5 @@
 pub mod Stated
 pub mod Bits
 pub mod Places
+pub mod Lanes
 pub mod Swept

@@ -1,8 +1,8 @@
 -- Slots beside a slot: in its own word, or in the word of the strip beside it.
-use Rattle.std.proofs.Common.{◌≡◌, ℕ, zero, suc, ◌+◌, ◌-◌, ◌*◌, ◌/◌, ◌%◌, ◌<◌, ◌≤◌, ◌==◌, ◌⊎◌, inl, inr, ◌&&◌, ◌||◌, List, length, get_or, refl, sym, ap, ◌∙◌, arith}
+use Rattle.std.proofs.Common.{◌≡◌, ℕ, zero, suc, ◌+◌, ◌-◌, ◌*◌, ◌/◌, ◌%◌, ◌<◌, ◌≤◌, ◌==◌, ◌⊎◌, inl, inr, ◌&&◌, ◌||◌, List, get_or, refl, sym, ap, ◌∙◌, arith}
 use Rattle.std.specs.Prelude.{bit_and}
 use Rattle.std.proofs.lemmas.Bool.{cases_eq, cond-true, cond-false, eq-eqb, ne_eqb}
-use Rattle.std.proofs.lemmas.List.{get_or_past}
+use Rattle.tl_strings.specs.Pairs.{IsPairAt}
 use Rattle.tl_strings.specs.Steps.{coin_bit}
 use Rattle.tl_strings.specs.Strings.{string_bit, word_place}
 use Rattle.tl_strings.specs.Words.{bit, bit_before, bit_behind}
@@ -20,6 +20,12 @@ same-strip strip other height row at e is = let product : strip * height ≡ oth
 
 pub string-at : (words : List ℕ) (height row slot at : ℕ) → word_place height row slot ≡ at → bit (get_or words at 0) (slot % 64) ≡ string_bit height words row slot
 string-at words height row slot at e = ap (λ (k : ℕ). bit (get_or words k 0) (slot % 64)) (sym e)
+
+-- the bit of a slot, by a pair that has its word
+pub loaded-at : (words pair : List ℕ) (height row slot at lane : ℕ) → IsPairAt words at pair → lane < 2 → word_place height row slot ≡ at + lane
+    → bit (get_or pair lane 0) (slot % 64) ≡ string_bit height words row slot
+loaded-at words pair height row slot at lane loaded below place =
+    ap (λ (w : ℕ). bit w (slot % 64)) (loaded lane below) ∙ string-at words height row slot (at + lane) place
 
 -- the slot before in the same word
 string-before-same : (words : List ℕ) (height row slot at previous : ℕ) → word_place height row slot ≡ at → (slot % 64 ≡ 0 → ⊥)
@@ -64,12 +70,6 @@ string-behind words height row slot at e = go (cases_eq (slot % 64) 63)
         let place : at ≡ word_place height row (slot + 1) = same-strip (slot / 64) ((slot + 1) / 64) height row at (omega (arith, other)) e in
         let one_more : slot % 64 + 1 ≡ (slot + 1) % 64 = omega (arith, other) in
         cond-false (slot % 64 == 63) _ _ (ne_eqb (slot % 64) 63 other) ∙ (λ t. bit (get_or words (place t) 0) (one_more t))
-
--- in the last strip nothing stands behind one
-pub string-behind-last : (words : List ℕ) (height row slot at : ℕ) → word_place height row slot ≡ at → length words ≤ at + height
-    → bit_behind (get_or words at 0) 0 (slot % 64) ≡ string_bit height words row (slot + 1)
-string-behind-last words height row slot at e past =
-    ap (λ (next : ℕ). bit_behind (get_or words at 0) next (slot % 64)) (sym (get_or_past words (at + height) 0 past)) ∙ string-behind words height row slot at e
 
 pub coins-both : (coins lows : List ℕ) (height row slot at : ℕ) → word_place height row slot ≡ at → 1 ≤ slot
     → (bit (bit_and (get_or coins at 0) (get_or lows at 0)) (slot % 64)

@@ -1,5 +1,5 @@
 -- Words: one bit, the bits beside it, and what a step makes of the bit of a slot.
-use Rattle.std.specs.Prelude.{◌≡◌, ℕ, ◌+◌, ◌-◌, ◌%◌, ◌≤◌, Bool, ◌||◌, ◌==◌, if◌then◌else◌, List}
+use Rattle.std.specs.Prelude.{◌≡◌, ℕ, ◌+◌, ◌-◌, ◌%◌, ◌<◌, ◌≤◌, Bool, ◌||◌, ◌==◌, if◌then◌else◌, List, slice_index}
 use Rattle.std.specs.Int.{bit_at}
 use Rattle.tl_strings.specs.Steps.{coin_bit, square_bit, triangle_bit}
 use Rattle.tl_strings.specs.Strings.{string_bit, word_place}
@@ -40,10 +40,12 @@ IsTriangleWord class height from to coins lows free here at word =
     (row slot : ℕ) → word_place height row slot ≡ at → 1 ≤ slot → 1 ≤ row
     → bit word (slot % 64) ≡ triangle_slot class height from to coins lows free row slot (bit here (slot % 64))
 
--- what both ends make of a word of the low ones
-abbrev pub IsJoinedWord : ℕ → List ℕ → ℕ → ℕ → ℕ → Type 0
-IsJoinedWord height high here at word =
-    (row slot : ℕ) → word_place height row slot ≡ at → 1 ≤ slot → bit word (slot % 64) ≡ (bit here (slot % 64) || string_bit height high row (slot - 1))
+-- A word of both ends: the bits of the low ones, and those of the high ones one slot on. The first slot of a row has no
+-- high bit.
+pub record IsJoinedWord (height : ℕ) (low high : List ℕ) (at word : ℕ) : Type 0 where
+  pub each : (row slot : ℕ) → word_place height row slot ≡ at → 1 ≤ slot
+      → bit word (slot % 64) ≡ (string_bit height low row slot || string_bit height high row (slot - 1))
+  pub first : at < height → bit word 0 ≡ bit (slice_index low at) 0
 
 -- the low ends and the high ones taken from both, where there are low slots
 abbrev pub IsLowWord : ℕ → List ℕ → List ℕ → ℕ → ℕ → ℕ → Type 0

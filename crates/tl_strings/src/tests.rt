@@ -11,6 +11,9 @@ const WORDS: usize = 24;
 
 const SLOTS: usize = 256;
 
+// The first word that is stepped or parted: that of the second row of the second strip.
+const FIRST: usize = 7;
+
 fn words(seed: u64) -> [u64; WORDS] {
     let mut words = [0; WORDS];
     let mut word = seed;
@@ -73,7 +76,7 @@ fn steps_of_squares(rt: HostRuntime) {
     };
     for is_odd in [false, true] {
         let mut new = old;
-        step_squares(&mut new, &others, planes, HEIGHT, 7, 11, is_odd);
+        step_squares(&mut new, &others, planes, HEIGHT, FIRST, 11, is_odd);
         for row in 1..5 {
             for slot in 64..128 {
                 let here = string_bit(&old, row, slot);
@@ -94,7 +97,7 @@ fn steps_of_squares(rt: HostRuntime) {
                 );
             }
         }
-        assert_eq!(rt; (&new[..7], &new[11..]), (&old[..7], &old[11..]));
+        assert_eq!(rt; (&new[..FIRST], &new[11..]), (&old[..FIRST], &old[11..]));
     }
 }
 
@@ -141,11 +144,75 @@ fn steps_of_triangles(rt: HostRuntime) {
     }
 }
 
+// The strings after steps at so many words: at all of them, two at a time, and at one after the other.
+fn squares(count: usize, is_odd: bool) -> ([u64; WORDS], [u64; WORDS])
+    requires { count ≤ 6 }
+{
+    let (others, coins, lows, free) = (words(2), words(3), words(4), words(5));
+    let planes = Planes {
+        coins: &coins,
+        lows: &lows,
+        free: &free,
+    };
+    let (mut by_pairs, mut by_words) = (words(1), words(1));
+    let end = FIRST + count;
+    step_squares(&mut by_pairs, &others, planes, HEIGHT, FIRST, end, is_odd);
+    for at in FIRST..end {
+        step_squares(&mut by_words, &others, planes, HEIGHT, at, at + 1, is_odd);
+    }
+    (by_pairs, by_words)
+}
+
+fn triangles(count: usize, class: u8) -> ([u64; WORDS], [u64; WORDS])
+    requires { count ≤ 6 }
+{
+    let (from, to) = (words(2), words(6));
+    let (coins, lows, free) = (words(3), words(4), words(5));
+    let planes = Planes {
+        coins: &coins,
+        lows: &lows,
+        free: &free,
+    };
+    let (mut by_pairs, mut by_words) = (words(1), words(1));
+    let end = FIRST + count;
+    step_triangles(&mut by_pairs, &from, &to, planes, HEIGHT, FIRST, end, class);
+    for at in FIRST..end {
+        step_triangles(&mut by_words, &from, &to, planes, HEIGHT, at, at + 1, class);
+    }
+    (by_pairs, by_words)
+}
+
+#[test]
+fn squares_as_word_by_word(rt: HostRuntime) {
+    for is_odd in [false, true] {
+        let (two, wanted) = squares(2, is_odd);
+        assert_eq!(rt; two, wanted, "two words, {is_odd}");
+        let (five, wanted) = squares(5, is_odd);
+        assert_eq!(rt; five, wanted, "five words, {is_odd}");
+        let (six, wanted) = squares(6, is_odd);
+        assert_eq!(rt; six, wanted, "six words, {is_odd}");
+        assert!(rt; six != words(1));
+    }
+}
+
+#[test]
+fn triangles_as_word_by_word(rt: HostRuntime) {
+    for class in 0..3 {
+        let (two, wanted) = triangles(2, class);
+        assert_eq!(rt; two, wanted, "two words, class {class}");
+        let (five, wanted) = triangles(5, class);
+        assert_eq!(rt; five, wanted, "five words, class {class}");
+        let (six, wanted) = triangles(6, class);
+        assert_eq!(rt; six, wanted, "six words, class {class}");
+        assert!(rt; six != words(1));
+    }
+}
+
 #[test]
 fn both_ends_joined_and_parted(rt: HostRuntime) {
     let (lows, low, high) = (low_slots(), words(1), words(2));
-    let mut joined = low;
-    join(&mut joined, &high, HEIGHT);
+    let mut joined = words(3);
+    join(&low, &high, &mut joined, HEIGHT);
     for row in 0..HEIGHT {
         for slot in 0..SLOTS {
             let wanted = string_bit(&low, row, slot)
@@ -158,10 +225,19 @@ fn both_ends_joined_and_parted(rt: HostRuntime) {
         }
     }
     let (mut new_low, mut new_high) = (low, high);
-    part(&joined, HEIGHT, &lows, &mut new_low, &mut new_high);
+    part(
+        &joined,
+        &lows,
+        &mut new_low,
+        &mut new_high,
+        HEIGHT,
+        FIRST,
+        17,
+    );
     for row in 0..HEIGHT {
         for slot in 0..SLOTS {
-            let wanted = if string_bit(&lows, row, slot) {
+            let is_parted = (FIRST..17).contains(&(slot / 64 * HEIGHT + row));
+            let wanted = if is_parted && string_bit(&lows, row, slot) {
                 (
                     string_bit(&joined, row, slot),
                     string_bit(&joined, row, slot + 1),

@@ -1,7 +1,10 @@
-use Rattle.std.proofs.Common.{◌≡◌, ◌∙◌, List, ap, ℤ}
+use Rattle.std.proofs.Common.{◌≡◌, ◌∙◌, List, ap, subst, sym, ℤ}
+use Rattle.tl_layout.specs.declared.layout.Layout.{Layout}
+use Rattle.tl_packed.specs.Inner.{AreInner}
 use Rattle.tl_packed.specs.PackedTiling.{PackedTiling}
 use Rattle.tl_packed.specs.Packs.{HoldEnds, Packs}
 use Rattle.tl_packed.proofs.EndsSeen.{packs-seen}
+use Rattle.tl_packed.proofs.InnerWords.{lows-inner}
 use Rattle.tl_packed.proofs.PartEnds.{parted-inside}
 use Rattle.tl_packed.proofs.ends.part_ends.Goals as goal
 use Rattle.tl_packed.proofs.ends.part_ends.Goals.{After-part_strings}
@@ -31,6 +34,11 @@ module _ (c : After-part_strings) where
   high-packs bottom top held =
       parted-inside c.args.low.now.heights.region _ c.args.low.now.layout c.layout.result _ 1 c.args.both.now c.args.lows.now c.high.inside.strings _ top
       high_region high_layout c.layout.ensures.layout c.layout.ensures.accepted c.layout.ensures.of_region c.requires.lows c.part_strings.ensures.high c.high.inside.packs held.high_lawful held.holds.high_end
+
+pub part_strings-requires-clause-inner : goal.part_strings-requires-clause-inner
+part_strings-requires-clause-inner c =
+    subst (λ (l : Layout). AreInner l.height c.args.lows.now) (sym c.layout.ensures.layout)
+    (lows-inner c.args.low.now.heights.region c.args.low.now.layout c.layout.ensures.of_region c.args.lows.now c.requires.lows)
 
 pub invariant_of-low-inside : goal.invariant_of-low-inside
 invariant_of-low-inside c = let (bottom, top, held) = c.requires.held in ((bottom, low-packs c bottom top held), tt)

@@ -9,13 +9,16 @@ use Rattle.tl_run.proofs.ReplyLemmas.{Answers-heard, reads-unless_gen}
 use Rattle.tl_run.proofs.RunLemmas.{runs-unasked}
 use Rattle.tl_run.proofs.run.answer_command.Goals as goal
 
-pub answer_gen-requires : goal.answer_gen-requires
-answer_gen-requires g c =
-    let within : IsWithinRanges (Gen c.in-Gen.job) = subst IsWithinRanges c.in-Gen.is c.requires in
-    record { order = within.0; bound = within.1 }
+pub answer_gen-requires-clause-order : goal.answer_gen-requires-clause-order
+answer_gen-requires-clause-order g c κs within =
+    let ranges : IsWithinRanges (Gen c.in-Gen.job) = subst IsWithinRanges c.in-Gen.is c.requires.ranges in ranges.0
+
+pub answer_gen-requires-clause-within : goal.answer_gen-requires-clause-within
+answer_gen-requires-clause-within g c κs within =
+    let ranges : IsWithinRanges (Gen c.in-Gen.job) = subst IsWithinRanges c.in-Gen.is c.requires.ranges in ranges.1
 
 pub hear-requires-clause-reads : goal.hear-requires-clause-reads
-hear-requires-clause-reads g c = reads-unless_gen c.args.command c.in_default.not-Gen
+hear-requires-clause-reads g c κs within = reads-unless_gen c.args.command c.in_default.not-Gen
 
 pub returns-in-Gen-clause-run : goal.returns-in-Gen-clause-run
 returns-in-Gen-clause-run g c =

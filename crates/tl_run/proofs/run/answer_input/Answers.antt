@@ -61,8 +61,8 @@ returns-in-Distance g c =
     (Writing-weaker (Makes c.distance.result) (Answers (meaning_of Distance) input) (takes_memory_first Distance) _ _ _
     (λ a p. OfInput-short input (DistanceReply input) a c.requires.input (Makes-allowed c.distance.result (DistanceReply input) c.distance.ensures a p)) c.write_made-in-Distance.ensures)
 
-pub sample-requires-clause-bound : goal.sample-requires-clause-bound
-sample-requires-clause-bound g c = subst IsWithinRanges c.in-Sample.is c.requires.ranges
+pub sample-requires-clause-within : goal.sample-requires-clause-within
+sample-requires-clause-within g c κs within = subst IsWithinRanges c.in-Sample.is c.requires.ranges
 
 pub returns-in-Sample : goal.returns-in-Sample
 returns-in-Sample g c =

@@ -10,8 +10,8 @@ use Rattle.tl_run.proofs.RunLemmas.{runs-unasked, runs-unread}
 use Rattle.tl_run.proofs.WritingLemmas.{Writing-is}
 use Rattle.tl_run.proofs.run.run_quiet.Goals as goal
 
-pub answer_command-requires : goal.answer_command-requires
-answer_command-requires g c = asked-ranges (texts c.args.words.now) c.in-Ok.command c.in-Ok.ensures.command
+pub answer_command-requires-clause-ranges : goal.answer_command-requires-clause-ranges
+answer_command-requires-clause-ranges g c κs within = asked-ranges (texts c.args.words.now) c.in-Ok.command c.in-Ok.ensures.command
 
 pub returns-in-Err-Usage-clause-run : goal.returns-in-Err-Usage-clause-run
 returns-in-Err-Usage-clause-run g c =

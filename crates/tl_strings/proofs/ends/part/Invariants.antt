@@ -4,7 +4,7 @@ use Rattle.tl_strings.specs.Swept.{IsSwept}
 use Rattle.tl_strings.proofs.ends.part.Given as goal
 
 abbrev pub invariant-loop-at : goal.invariant-loop-at
-invariant-loop-at l = IsSwept (λ k word. IsLowWord l.height l.joined l.lows (slice_index l.fn.low k) k word) 0 l.at l.fn.low l.low
-
-abbrev pub invariant-loop-at-2 : goal.invariant-loop-at-2
-invariant-loop-at-2 l = IsSwept (λ k word. IsHighWord l.height l.joined l.lows (slice_index l.fn.high k) k word) 0 l.at l.fn.high l.high
+invariant-loop-at l = record {
+  low_swept : IsSwept (λ k word. IsLowWord l.height l.joined l.lows (slice_index l.fn.low k) k word) l.first l.at l.fn.low l.low;
+  high_swept : IsSwept (λ k word. IsHighWord l.height l.joined l.lows (slice_index l.fn.high k) k word) l.first l.at l.fn.high l.high;
+}

@@ -1,19 +1,34 @@
-use Rattle.std.proofs.Common.{subst, arith}
+use Rattle.std.proofs.Common.{◌+◌, subst, get_or, ◌∙◌, arith}
 use Rattle.tl_strings.specs.Words.{IsTriangleWord}
-use Rattle.tl_strings.proofs.Swept.{swept-all, swept-next, swept-none}
+use Rattle.tl_strings.proofs.Swept.{swept-all, swept-next, swept-pair}
 use Rattle.tl_strings.proofs.triangles.sweep.Goals as goal
 
-pub loop-at-init : goal.loop-at-init
-loop-at-init c = swept-none _ c.args.first c.args.strings.now
-
-pub loop-at-preserved : goal.loop-at-preserved
-loop-at-preserved c =
+pub pairs-preserved : goal.pairs-preserved
+pairs-preserved c =
     let a = c.args in
     let p = a.planes in
-    let at = c.loop-at.at in
-    swept-next _ a.first at c.triangle_at.result a.strings.now c.loop-at.strings (omega arith) (omega arith) c.loop-at.invariant
-    (subst (λ here. IsTriangleWord a.class a.height a.from.now a.to.now p.coins.now p.lows.now p.free.now here at c.triangle_at.result) (c.loop-at.invariant.rest at (omega arith))
-    c.triangle_at.ensures)
+    let at = c.pairs.at in
+    let so_far = c.pairs.invariant.swept in
+    let pair = c.triangle_pair-pair.result in
+    record {
+      from = omega arith;
+      within = omega arith;
+      len = omega arith;
+      swept = swept-pair _ a.first at pair a.strings.now c.pairs.strings c.store.new.words c.pairs.invariant.from so_far c.store.ensures.stored
+          (λ lane below. subst (λ here. IsTriangleWord a.class a.height a.from.now a.to.now p.coins.now p.lows.now p.free.now here (at + lane) (get_or pair lane 0))
+          (c.load-here.ensures lane below ∙ so_far.rest (at + lane) (omega arith)) (c.triangle_pair-pair.ensures lane below));
+    }
 
-pub returns-clause-swept : goal.returns-clause-swept
-returns-clause-swept c = swept-all _ _ _ _ _ _ (omega arith) c.loop-at.invariant
+pub returns-then-at-end-clause-swept : goal.returns-then-at-end-clause-swept
+returns-then-at-end-clause-swept c =
+    let a = c.args in
+    let p = a.planes in
+    let at = c.pairs.at in
+    let so_far = c.pairs.invariant.swept in
+    swept-all _ _ _ _ _ _ (omega arith)
+    (swept-next _ a.first at c.triangle_at.result a.strings.now c.pairs.strings c.pairs.invariant.from (omega arith) so_far
+    (subst (λ here. IsTriangleWord a.class a.height a.from.now a.to.now p.coins.now p.lows.now p.free.now here at c.triangle_at.result) (so_far.rest at (omega arith))
+    c.triangle_at.ensures))
+
+pub returns-else-at-end-clause-swept : goal.returns-else-at-end-clause-swept
+returns-else-at-end-clause-swept c = swept-all _ _ _ _ _ _ (omega arith) c.pairs.invariant.swept

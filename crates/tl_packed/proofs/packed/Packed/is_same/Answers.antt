@@ -1,9 +1,17 @@
-use Rattle.std.proofs.Common.{◌≡◌, ◌∙◌, ap, sym, subst}
+use Rattle.std.proofs.Common.{◌≡◌, ℕ, ◌∙◌, ap, sym, subst}
+use Rattle.tl_packed.specs.Inner.{AreInner}
 use Rattle.tl_packed.specs.OfClasses.{AreLows}
 use Rattle.tl_packed.specs.PackedTiling.{PackedTiling}
 use Rattle.tl_packed.proofs.Copied.{other-frame, same-frame, tiling_of}
+use Rattle.tl_packed.proofs.InnerWords.{lows-inner}
 use Rattle.tl_packed.proofs.Same.{agree-same, same-agree}
 use Rattle.tl_packed.proofs.packed.Packed.is_same.Goals as goal
+
+pub classes_agree_under-requires-clause-inner : goal.classes_agree_under-requires-clause-inner
+classes_agree_under-requires-clause-inner c =
+    let of = c.self.inside in
+    let lows : AreLows of.region.now of.layout c.args.lows.now = subst (λ (t : PackedTiling). AreLows t.heights.region t.layout c.args.lows.now) (sym c.self.view_is) c.requires.lows in
+    subst (λ (height : ℕ). AreInner height c.args.lows.now) (sym c.height.ensures) (lows-inner of.region.now of.layout c.self.invariant.layout c.args.lows.now lows)
 
 pub returns : goal.returns
 returns c =

@@ -1,0 +1,4 @@
+pub mod Bands
+pub mod Even
+pub mod Firsts
+pub mod Examples

@@ -1,0 +1,4 @@
+pub mod EntryLemmas
+mod ListLemmas
+pub mod Stated
+mod Examples

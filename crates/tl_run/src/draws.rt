@@ -1,0 +1,178 @@
+//! Samples drawn and written.
+
+ghost use Rattle.std.specs.Prelude.{◌≡◌, ◌≤◌, true, length, IfOk, OnOk, OnErr, if◌then◌else◌};
+ghost use Rattle.tl_definitions.specs.Accepted.{Accepted};
+ghost use Rattle.tl_extreme.specs.Verdicts.{AreBottomHeights, AreTopHeights};
+ghost use Rattle.tl_height.specs.HeightFunction.{HeightFunction};
+ghost use Rattle.tl_outcomes.specs.Outcomes.{AreOutcomesOf, draw_of, EntriesOf, entry_of, IsWithin, is_rank};
+ghost use Rattle.tl_outcomes.specs.declared.draw_job.DrawJob.{DrawJob};
+ghost use Rattle.tl_text.specs.SampleLine.{sample_line};
+ghost use Rattle.tl_run.specs.Draws.{is_late_draw};
+ghost use Rattle.tl_run.specs.InEntries.{IsInEntries};
+ghost use Rattle.tl_run.specs.Statuses.{code_of};
+ghost use Rattle.tl_run.specs.Writing.{Appends, Cuts, Writing};
+
+use crate::status::Status;
+use std::alloc::{AllocError, Global};
+use std::thread::Threads;
+use tl_chain::Drawn;
+use tl_height::Heights;
+use tl_io::{Gate, Sink, WriteFault, write_all};
+use tl_outcomes::{Drawer, Noted, Outcome, draw_apart};
+use tl_text::{SampleJob, sample_head};
+use tl_workers::Worker;
+
+// Writes the head line of a sample.
+fn write_head<K: Sink>(
+    number: u32,
+    start: Option<u64>,
+    rank: Option<u64>,
+    sink: &mut K,
+) -> Result<(), WriteFault>
+    ensures whole { OnOk result (Appends (sample_line number start rank) (K.state sink.old) (K.state sink.new)) }
+    ensures cut { OnErr result (Cuts (sample_line number start rank) (K.state sink.old) (K.state sink.new)) }
+{
+    let mut line = [0u8; 80];
+    let end = sample_head(number, start, rank, &mut line);
+    write_all(sink, &line[..end])
+}
+
+// Writes what came of the draw of a number: its head line, and its drawing where it has one.
+fn write_outcome<K: Sink>(number: u32, outcome: &Outcome, sink: &mut K) -> Result<(), WriteFault>
+    ensures whole { OnOk result (Appends (entry_of outcome.now.drawn outcome.now.noted number).text
+        (K.state sink.old) (K.state sink.new)) }
+    ensures cut { OnErr result (Cuts (entry_of outcome.now.drawn outcome.now.noted number).text
+        (K.state sink.old) (K.state sink.new)) }
+{
+    let Drawn::At(start) = outcome.drawn else {
+        return write_head(number, None, None, sink);
+    };
+    match &outcome.noted {
+        Noted::Drawing(letters) => {
+            write_head(number, Some(start), None, sink)?;
+            write_all(sink, letters)
+        }
+        Noted::Rank(rank) => write_head(number, Some(start), Some(*rank), sink),
+    }
+}
+
+// The status of the samples with one more.
+fn status_with(status: Status, drawn: Drawn) -> Status
+    ensures { code_of result ≡ (if is_late_draw drawn then 7 else code_of status) }
+{
+    match drawn {
+        Drawn::At(_) => status,
+        Drawn::Late => Status::Late,
+    }
+}
+
+// Draws the samples of all numbers below the count, one after the other, and writes each before the next is drawn.
+// After a failed write none is drawn. It takes no memory.
+fn write_in_turn<'a, K: Sink, G: Gate>(
+    count: u32,
+    blank: Outcome<'a>,
+    drawer: &mut Drawer<'a>,
+    head: &[u8],
+    gate: &G,
+    sink: &mut K,
+) -> Status
+    requires region { drawer.old.sampler.region ≡ blank.region.now }
+    requires bottom { AreBottomHeights blank.region.now drawer.old.bottom.now }
+    requires bound { blank.job.now.bound ≤ 30 }
+    requires accepted { Accepted blank.region.now }
+    ensures { Writing (IsInEntries (EntriesOf (draw_of blank.entry)) head.now count) true
+        (K.state sink.old) (K.state sink.new) (code_of result) }
+{
+    let Ok(()) = write_all(sink, head) else {
+        return Status::WriteFault;
+    };
+    let mut status = Status::Answered;
+    let mut outcome = blank;
+    for number in 0..count {
+        gate.pass(0, number);
+        outcome = drawer.fill(number, outcome);
+        gate.posted(0, number);
+        let Ok(()) = write_outcome(number, &outcome, sink) else {
+            return Status::WriteFault;
+        };
+        status = status_with(status, outcome.drawn);
+    }
+    status
+}
+
+// Writes what came of all draws, in order.
+fn write_outcomes<K: Sink>(outcomes: &[Outcome], head: &[u8], sink: &mut K) -> Status
+    requires { length outcomes.now ≤ 65536 }
+    ensures { (draw : DrawJob) (low : HeightFunction) → AreBottomHeights draw.region low → Accepted draw.region
+        → AreOutcomesOf draw outcomes.now
+        → Writing (IsInEntries (EntriesOf draw) head.now (length outcomes.now)) true (K.state sink.old) (K.state sink.new) (code_of result) }
+{
+    let Ok(()) = write_all(sink, head) else {
+        return Status::WriteFault;
+    };
+    let mut status = Status::Answered;
+    for number in 0..outcomes.len() {
+        let outcome = &outcomes[number];
+        let Ok(()) = write_outcome(number as u32, outcome, sink) else {
+            return Status::WriteFault;
+        };
+        status = status_with(status, outcome.drawn);
+    }
+    status
+}
+
+// Takes all memory that draws in turn need.
+fn prepare<'a>(
+    alloc: Global,
+    low: &'a Heights<'a>,
+    high: &Heights<'a>,
+    job: &'a SampleJob,
+    is_ranked: bool,
+) -> Result<(Drawer<'a>, Outcome<'a>), AllocError>
+    requires bottom { AreBottomHeights low.now.region low.now }
+    requires top { AreTopHeights low.now.region high.now }
+    ensures region { IfOk result (λ p. p.0.sampler.region ≡ low.now.region) }
+    ensures bottom { IfOk result (λ p. p.0.bottom.now ≡ low.now) }
+    ensures draw { IfOk result (λ p. (p.1.region.now ≡ low.now.region) × (p.1.job.now ≡ job.now) × (is_rank p.1.noted ≡ is_ranked)) }
+{
+    let drawer = Drawer::new(alloc, low, high)?;
+    let blank = Outcome::blank(alloc, low.region(), job, is_ranked)?;
+    Ok((drawer, blank))
+}
+
+/// Draws the samples that a job asks for and writes them behind the head, in order. One worker draws and writes them in
+/// turn. Several draw them beside each other, and they are written when all are drawn.
+pub fn write_draws<'a, R: Threads + Sync, K: Sink, G: Gate + Sync>(
+    rt: &R,
+    alloc: Global,
+    low: &'a Heights<'a>,
+    high: &Heights<'a>,
+    job: &'a SampleJob,
+    is_ranked: bool,
+    head: &[u8],
+    gate: &G,
+    sink: &mut K,
+) -> Status
+    requires bottom { AreBottomHeights low.now.region low.now }
+    requires top { AreTopHeights low.now.region high.now }
+    requires within { IsWithin job.now }
+    ensures { Writing
+        (IsInEntries (EntriesOf (record { region = low.now.region; job = job.now; is_ranked = is_ranked })) head.now job.now.count)
+        true (K.state sink.old) (K.state sink.new) (code_of result) }
+{
+    // the call tells that the region is accepted
+    let _region = low.region();
+    if job.workers == 1 || job.count == 1 {
+        match prepare(alloc, low, high, job, is_ranked) {
+            Ok((mut drawer, blank)) => {
+                write_in_turn(job.count, blank, &mut drawer, head, gate, sink)
+            }
+            Err(AllocError) => Status::OutOfMemory,
+        }
+    } else {
+        match draw_apart(rt, alloc, low, high, job, is_ranked, gate) {
+            Ok(outcomes) => write_outcomes(&outcomes, head, sink),
+            Err(AllocError) => Status::OutOfMemory,
+        }
+    }
+}
