@@ -8,7 +8,9 @@ use Rattle.std.proofs.Math.Nat.{mul-le-mul_right}
 use Rattle.tl_definitions.specs.declared.Kind.{Kind}
 use Rattle.tl_definitions.specs.declared.Kind.TheVariants.{Square, Triangle}
 use Rattle.tl_definitions.specs.Lattice.{classes}
-use Rattle.tl_definitions.specs.Region.{Region}
+use Rattle.tl_definitions.specs.declared.Corner.{Corner}
+use Rattle.tl_definitions.specs.Region.{Region, is_inner}
+use Rattle.tl_definitions.proofs.InnerNumbers.{inner-among}
 use Rattle.tl_strings.specs.Strings.{row_of, slot_of, string_bit, word_place}
 use Rattle.tl_strings.specs.Words.{bit}
 use Rattle.tl_layout.specs.declared.layout.Layout.{Layout}
@@ -17,6 +19,7 @@ use Rattle.tl_layout.specs.Slots.{AreSlotsOf}
 use Rattle.tl_packed.specs.declared.strings.Strings.{Strings}
 use Rattle.tl_packed.specs.Inner.{AreInner, IsInner}
 use Rattle.tl_packed.specs.OfClasses.{AreLows, third_size}
+use Rattle.tl_packed.proofs.Inside.{two-more}
 use Rattle.tl_packed.proofs.PartEnds.{low-has}
 
 -- the row and the slot of a bit of a word
@@ -34,17 +37,26 @@ has-bit height at x some small =
       bit_is = omega (arith, small);
     }
 
--- a slot behind the first strip and the first row, with words on all sides of the slot after it
-inner-slot : (height row slot size : ℕ) → 1 ≤ row → 64 ≤ slot → word_place height row (slot + 1) + height + 1 < size
-    → (height + 1 ≤ word_place height row slot) × (word_place height row slot + height + 1 < size)
-inner-slot height row slot size below behind inside =
+-- a slot behind the first strip and before the last, in a row of inner corners
+inner-slot : (height row slot strips : ℕ) → 2 ≤ row → row + 3 < height → 64 ≤ slot → slot / 64 + 2 ≤ strips
+    → (height + 2 ≤ word_place height row slot) × (word_place height row slot + height + 3 < strips * height)
+inner-slot height row slot strips below above behind before =
     let one : 1 ≤ slot / 64 = omega (arith, behind) in
-    let strip = mul-le-mul_right height one in
-    let next : slot / 64 ≤ (slot + 1) / 64 = omega arith in
-    let start = mul-le-mul_right height next in
-    (omega (arith, strip, below), omega (arith, start, inside))
+    let start = mul-le-mul_right height one in
+    let end = mul-le-mul_right height before in
+    (omega (arith, start, below), omega (arith, end, above))
 
 module _ (R : Region) (l : Layout) (layout : IsLayoutOf R l) where
+  -- the slot of an inner corner, and the slot after it
+  pub corner-inner : (v : Corner) (slot : ℕ) → is_inner R v ≡ true → slot_of R.kind l.first v ≤ slot → slot ≤ slot_of R.kind l.first v + 1
+      → (l.height + 2 ≤ word_place l.height (row_of v) slot) × (word_place l.height (row_of v) slot + l.height + 3 < size_of l)
+  corner-inner v slot inner from to =
+      let stands = layout.stands v inner in
+      let among = inner-among R v layout.placed inner in
+      let last = two-more ((slot_of R.kind l.first v + 1) / 64) l.strips l.height (row_of v) stands.inside in
+      inner-slot l.height (row_of v) slot l.strips (omega (arith, among.below_first_row)) (omega (arith, among.row, layout.height)) (omega (arith, stands.slot, from))
+      (omega (arith, last, to))
+
   class-inner : (class : ℕ) (lows : List ℕ) → AreSlotsOf R l class lows → IsInner l.height lows
   class-inner class lows are at x small set =
       let row = at % l.height in
@@ -52,9 +64,8 @@ module _ (R : Region) (l : Layout) (layout : IsLayoutOf R l) where
       let has : HasBit l.height at x row slot = has-bit l.height at x (omega (arith, layout.height)) small in
       let low : string_bit l.height lows row slot ≡ true = (λ i. bit (get_or lows (has.word i) 0) (has.bit_is i)) ∙ set in
       let (v, inner, stood) = low-has R l layout class lows are row slot has.low low in
-      let stands = layout.stands v inner in
       let word : word_place l.height (row_of v) (slot_of R.kind l.first v) ≡ at = (λ i. word_place l.height (stood.row_is i) (stood.slot_is i)) ∙ has.word in
-      let within = inner-slot l.height (row_of v) (slot_of R.kind l.first v) (size_of l) (omega arith) stands.slot stands.inside in
+      let within = corner-inner v (slot_of R.kind l.first v) inner (omega arith) (omega arith) in
       (omega (arith, within.0, word), omega (arith, within.1, word, are.size))
 
   pub lows-inner : (lows : Strings) → AreLows R l lows → AreInner l.height lows

@@ -14,7 +14,7 @@ use Rattle.tl_packing.proofs.Stated.{one-corner, region-corner}
 use Rattle.tl_pack.specs.Packs.{HasSlot}
 
 -- a strip before the last begins two strips before the end
-two-more : (strip strips height row : ℕ) → strip * height + row + height + 1 < strips * height → strip + 2 ≤ strips
+pub two-more : (strip strips height row : ℕ) → strip * height + row + height + 1 < strips * height → strip + 2 ≤ strips
 two-more strip strips height row h = go (cases_lt (strip + 1) strips)
   where
     go : (strip + 1 < strips) ⊎ (strips ≤ strip + 1) → strip + 2 ≤ strips

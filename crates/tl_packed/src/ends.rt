@@ -1,6 +1,6 @@
 //! Both ends of a pair of tilings in one string: joined, and parted again.
 
-ghost use Rattle.std.specs.Prelude.{◌≡◌, ◌+◌, ◌<◌, if◌then◌else◌, ℕ, List, ℤ, length};
+ghost use Rattle.std.specs.Prelude.{◌≡◌, ◌+◌, ◌<◌, ◌≤◌, if◌then◌else◌, ℕ, List, ℤ, length};
 ghost use Rattle.tl_strings.specs.Strings.{string_bit, word_place};
 ghost use Rattle.tl_packed.specs.Ends.{AreJoined, AreParted};
 ghost use Rattle.tl_packed.specs.Inner.{AreInner, IsInner};
@@ -99,7 +99,7 @@ fn part_class(both: &[u64], lows: &[u64], low: &mut [u64], high: &mut [u64], hei
     requires both { length both.now ≡ length low.old }
     requires lows { length lows.now ≡ length low.old }
     requires high { length high.old ≡ length low.old }
-    requires height { height < usize.MAX }
+    requires height { height + 3 ≤ usize.MAX }
     requires inner { IsInner height lows.now }
     ensures low_len { length low.new ≡ length low.old }
     ensures high_len { length high.new ≡ length high.old }

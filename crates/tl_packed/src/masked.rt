@@ -1,6 +1,6 @@
 //! Strings that are compared where others have ones.
 
-ghost use Rattle.std.specs.Prelude.{◌≡◌, ◌↔◌, ◌<◌, IsTrue, length};
+ghost use Rattle.std.specs.Prelude.{◌≡◌, ◌↔◌, ◌+◌, ◌≤◌, IsTrue, length};
 ghost use Rattle.tl_packed.specs.Inner.{AreInner, IsInner};
 ghost use Rattle.tl_packed.specs.Masked.{AgreeUnder, AllAgreeUnder, AreAsLong, ClassesAgreeUnder};
 
@@ -19,7 +19,7 @@ fn agree_under(low: u64, one: u64, other: u64) -> bool
 fn all_agree_under(lows: &[u64], one: &[u64], other: &[u64], height: usize) -> bool
     requires one { length one.now ≡ length lows.now }
     requires other { length other.now ≡ length lows.now }
-    requires height { height < usize.MAX }
+    requires height { height + 3 ≤ usize.MAX }
     requires inner { IsInner height lows.now }
     ensures { IsTrue result ↔ AllAgreeUnder lows.now one.now other.now }
 {
@@ -36,7 +36,7 @@ fn all_agree_under(lows: &[u64], one: &[u64], other: &[u64], height: usize) -> b
 pub fn classes_agree_under(lows: &Strings, one: &Strings, other: &Strings, height: usize) -> bool
     requires one { AreAsLong one.now lows.now }
     requires other { AreAsLong other.now lows.now }
-    requires height { height < usize.MAX }
+    requires height { height + 3 ≤ usize.MAX }
     requires inner { AreInner height lows.now }
     ensures { IsTrue result ↔ ClassesAgreeUnder lows.now one.now other.now }
 {

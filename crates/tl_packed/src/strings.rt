@@ -58,6 +58,8 @@ impl Strings {
     {
         self.first.copy_from_slice(&other.first);
         self.second.copy_from_slice(&other.second);
-        self.third.copy_from_slice(&other.third);
+        if !other.third.is_empty() {
+            self.third.copy_from_slice(&other.third);
+        }
     }
 }

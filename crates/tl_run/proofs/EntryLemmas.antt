@@ -8,7 +8,7 @@ use Rattle.tl_chain.specs.declared.Drawn.TheVariants.{At, Late}
 use Rattle.tl_io.specs.States.{SinkState}
 use Rattle.tl_outcomes.specs.declared.noted.Noted.{Noted}
 use Rattle.tl_outcomes.specs.Entries.{Entry, Entries}
-use Rattle.tl_outcomes.specs.Outcomes.{entry_of, noted_text}
+use Rattle.tl_outcomes.specs.Outcomes.{entry_of}
 use Rattle.tl_run.specs.Answers.{answer, is_whole}
 use Rattle.tl_run.specs.Draws.{is_late_draw}
 use Rattle.tl_run.specs.InEntries.{AreEntries, entries_text, entries_status, told_entries, IsInEntries}
@@ -150,7 +150,3 @@ module _ (P : Entries) (head : List ℕ) where
 pub entry_of-late : (draw : Drawn) (noted : Noted) (n : ℕ) → (entry_of draw noted n).is_late ≡ is_late_draw draw
 entry_of-late (At T) noted n = refl
 entry_of-late Late noted n = refl
-
--- its text where it isn't late
-pub entry_of-text : (draw : Drawn) (noted other : Noted) (n T : ℕ) → draw ≡ At T → noted ≡ other → (entry_of draw noted n).text ≡ noted_text n T other
-entry_of-text draw noted other n T d e = ap (λ (x : Drawn). (entry_of x noted n).text) d ∙ ap (λ (y : Noted). noted_text n T y) e

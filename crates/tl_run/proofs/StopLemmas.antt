@@ -1,6 +1,6 @@
 -- Refusals that are handed on.
 use Rattle.std.proofs.Common.{◌≡◌, Ok, Err, sym, subst}
-use Rattle.std.specs.Prelude.{Result, IsErrAnd, IfErr, OnErr}
+use Rattle.std.specs.Prelude.{Result, IsErrAnd, IfErr}
 use Rattle.tl_run.specs.declared.reply.Reply.{Reply}
 use Rattle.tl_run.specs.declared.reply.Stop.{Stop}
 use Rattle.tl_run.specs.declared.reply.Stop.TheVariants.{Refused, Memory}
@@ -29,13 +29,3 @@ pub Makes-allowed : (made : Result Reply Stop) (P : Allows) → IfMade made P �
 Makes-allowed (Ok reply) P p a e = subst P (sym e) p
 Makes-allowed (Err (Refused reply)) P p a e = subst P (sym e) p
 Makes-allowed (Err Memory) P p a e = absurd e
-
--- an error that says nothing
-pub OnErr-passed : {T E P : Type 0} (r : Result T E) → P → OnErr r P
-OnErr-passed (Ok x) p = tt
-OnErr-passed (Err e) p = p
-
--- an error of which two things are said
-pub OnErr-both : {T E P Q X : Type 0} (r : Result T E) → (P → Q → X) → OnErr r P → OnErr r Q → OnErr r X
-OnErr-both (Ok x) f p q = tt
-OnErr-both (Err e) f p q = f p q

@@ -53,19 +53,6 @@ Writing-whole P silent out sink sink' status written whole p = record {
   silence = λ e h. cc (whole, ap is_whole e);
 }
 
--- a write failed, and more was to follow
-pub Cuts-first : (bytes more : List ℕ) (sink sink' : SinkState) → Cuts bytes sink sink' → Cuts (bytes ++ more) sink sink'
-Cuts-first bytes more sink sink' c =
-    let (tail, whole) = c.part.is_prefix in
-    record {
-      part = record {
-        part = c.part.part;
-        is_prefix = (tail ++ more, sym (append_assoc c.part.part tail more) ∙ ap (λ (l : List ℕ). l ++ more) whole);
-        appended = c.part.appended;
-      };
-      rose = c.rose;
-    }
-
 -- a write failed after all before it
 pub Cuts-second : (out more : List ℕ) (sink mid sink' : SinkState) → Appends out sink mid → Cuts more mid sink' → Cuts (out ++ more) sink sink'
 Cuts-second out more sink mid sink' written c =

@@ -1,6 +1,6 @@
 //! Samples drawn and written.
 
-ghost use Rattle.std.specs.Prelude.{◌≡◌, ◌≤◌, true, length, IfOk, OnOk, OnErr, if◌then◌else◌};
+ghost use Rattle.std.specs.Prelude.{◌≡◌, ◌≤◌, ◌+◌, ◌++◌, true, length, take, Some, None, IfOk, OnOk, OnErr, if◌then◌else◌};
 ghost use Rattle.tl_definitions.specs.Accepted.{Accepted};
 ghost use Rattle.tl_extreme.specs.Verdicts.{AreBottomHeights, AreTopHeights};
 ghost use Rattle.tl_height.specs.HeightFunction.{HeightFunction};
@@ -21,6 +21,53 @@ use tl_io::{Gate, Sink, WriteFault, write_all};
 use tl_outcomes::{Drawer, Noted, Outcome, draw_apart};
 use tl_text::{SampleJob, sample_head};
 use tl_workers::Worker;
+
+// No more bytes are gathered for one write.
+const PAGE_SIZE: usize = 512;
+
+// Puts bytes behind those that are there, and gives the new end.
+fn put(page: &mut [u8; PAGE_SIZE], end: usize, bytes: &[u8]) -> usize
+    requires { end + length bytes.now ≤ PAGE_SIZE }
+    ensures end { result ≡ end + length bytes.now }
+    ensures put { take result page.new ≡ take end page.old ++ bytes.now }
+{
+    let new_end = end + bytes.len();
+    page[end..new_end].copy_from_slice(bytes);
+    new_end
+}
+
+// Writes two pieces, one behind the other. Where they are short, both go into one write.
+fn write_both<K: Sink>(first: &[u8], second: &[u8], sink: &mut K) -> Result<(), WriteFault>
+    requires { length first.now ≤ PAGE_SIZE }
+    ensures whole { OnOk result (Appends (first.now ++ second.now) (K.state sink.old) (K.state sink.new)) }
+    ensures cut { OnErr result (Cuts (first.now ++ second.now) (K.state sink.old) (K.state sink.new)) }
+{
+    if second.len() <= PAGE_SIZE - first.len() {
+        let mut page = [0u8; PAGE_SIZE];
+        let end = put(&mut page, 0, first);
+        let end = put(&mut page, end, second);
+        return write_all(sink, &page[..end]);
+    }
+    write_all(sink, first)?;
+    write_all(sink, second)
+}
+
+// Writes the head line of a sample and its drawing.
+fn write_drawing<K: Sink>(
+    number: u32,
+    start: u64,
+    letters: &[u8],
+    sink: &mut K,
+) -> Result<(), WriteFault>
+    ensures whole { OnOk result (Appends (sample_line number (Some start) None ++ letters.now)
+        (K.state sink.old) (K.state sink.new)) }
+    ensures cut { OnErr result (Cuts (sample_line number (Some start) None ++ letters.now)
+        (K.state sink.old) (K.state sink.new)) }
+{
+    let mut line = [0u8; 80];
+    let end = sample_head(number, Some(start), None, &mut line);
+    write_both(&line[..end], letters, sink)
+}
 
 // Writes the head line of a sample.
 fn write_head<K: Sink>(
@@ -48,10 +95,7 @@ fn write_outcome<K: Sink>(number: u32, outcome: &Outcome, sink: &mut K) -> Resul
         return write_head(number, None, None, sink);
     };
     match &outcome.noted {
-        Noted::Drawing(letters) => {
-            write_head(number, Some(start), None, sink)?;
-            write_all(sink, letters)
-        }
+        Noted::Drawing(letters) => write_drawing(number, start, letters, sink),
         Noted::Rank(rank) => write_head(number, Some(start), Some(*rank), sink),
     }
 }

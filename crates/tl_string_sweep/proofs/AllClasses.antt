@@ -99,7 +99,7 @@ module _ (R : Region) (l : Layout) (slots : Slots) (bits : ℕ → Bool) (coins 
         (triangle-steps 0 (omega arith) first (strings_of first second third) (strings_of first' second third) (record { first = refl; second = refl; third = refl }) steps_0 low high ends)))
 
 -- strings without an inner corner hold the marks of any heights
-pub none-swept : (R : Region) (l : Layout) (strings : Strings) (bits : ℕ → Bool) (low high : List ℤ) → Accepted R → IsLayoutOf R l → size_of l < 2 * (l.height + 1)
+pub none-swept : (R : Region) (l : Layout) (strings : Strings) (bits : ℕ → Bool) (low high : List ℤ) → Accepted R → IsLayoutOf R l → size_of l < 2 * l.height + 5
     → HoldEnds R l strings low high → HoldEnds R l strings (swept R bits low) (swept R bits high)
 none-swept R l strings bits low high accepted layout small ends = record {
   size = ends.size;

@@ -1,11 +1,10 @@
 -- Where inner corners stand in strings of a layout, and so which slots are low, and which are free.
-use Rattle.std.proofs.Common.{◌≡◌, ℕ, ◌+◌, ◌-◌, ◌*◌, ◌/◌, ◌%◌, ◌<◌, ◌≤◌, ◌⊎◌, inl, inr, true, false, ◌||◌, List, length, sym, ◌∙◌, ap, subst, arith}
+use Rattle.std.proofs.Common.{◌≡◌, ℕ, ◌+◌, ◌-◌, ◌*◌, ◌%◌, ◌<◌, ◌≤◌, ◌⊎◌, inl, inr, true, false, ◌||◌, List, length, sym, ◌∙◌, ap, subst, arith}
 use Rattle.std.specs.Int.{bit_at}
 use Rattle.std.specs.Prelude.{◌==◌}
 use Rattle.std.proofs.lemmas.Bool.{and_from, and_parts, cases_lt, eq-eqb, eqb-true, false_from_ne_true, or_cases, or_from}
 use Rattle.std.proofs.lemmas.List.{get_or_past}
 use Rattle.std.proofs.lemmas.Nat.Bits.{bit_at-zero}
-use Rattle.std.proofs.Math.Nat.{mul-le-mul_right}
 use Rattle.tl_lists.proofs.Members.{any-In, In-any_of}
 use Rattle.tl_lists.proofs.Positions.{position-at}
 use Rattle.tl_definitions.specs.declared.Corner.{Corner}
@@ -19,6 +18,7 @@ use Rattle.tl_layout.specs.declared.layout.Layout.{Layout}
 use Rattle.tl_layout.specs.Layouts.{IsLayoutOf, size_of}
 use Rattle.tl_layout.specs.Slots.{AreFree, AreSlotsOf, is_at}
 use Rattle.tl_packing.specs.Packing.{AreFreeSlots, AreLowSlots, IsFrame}
+use Rattle.tl_packed.proofs.InnerWords.{corner-inner}
 use Rattle.tl_string_sweep.specs.Sweeps.{AreInside}
 
 -- no bit is set past the words
@@ -26,24 +26,15 @@ past-false : (height : ℕ) (words : List ℕ) (row slot : ℕ) → length words
 past-false height words row slot past =
     (λ i. bit_at (get_or_past words (word_place height row slot) 0 past i) (slot % 64) == 1) ∙ ap (λ (bit : ℕ). bit == 1) (bit_at-zero (slot % 64))
 
--- the word of the slot before isn't further on
-place-before : (height row slot : ℕ) → word_place height row slot ≤ word_place height row (slot + 1)
-place-before height row slot =
-    let strip : slot / 64 ≤ (slot + 1) / 64 = omega arith in
-    let start = mul-le-mul_right height strip in
-    omega (arith, start)
-
 module _ (R : Region) (l : Layout) (layout : IsLayoutOf R l) where
   pub frame-of : IsFrame R l.height l.first
   frame-of = record { rows = omega (arith, layout.height); columns = λ v inner. (layout.stands v inner).column }
 
   -- strings with an inner corner have room for the words beside its own
-  pub inner-room : (v : Corner) → is_inner R v ≡ true → 2 * (l.height + 1) ≤ size_of l
+  pub inner-room : (v : Corner) → is_inner R v ≡ true → 2 * l.height + 5 ≤ size_of l
   inner-room v inner =
-      let stands = layout.stands v inner in
-      let one : 1 ≤ (slot_of R.kind l.first v + 1) / 64 = omega (arith, stands.slot) in
-      let strip = mul-le-mul_right l.height one in
-      omega (arith, strip, stands.inside)
+      let place = corner-inner R l layout v (slot_of R.kind l.first v) inner (omega arith) (omega arith) in
+      omega (arith, place.0, place.1)
 
   module _ (class : ℕ) (lows : List ℕ) (slots : AreSlotsOf R l class lows) where
     -- a low slot is that of an inner corner of the class
@@ -67,17 +58,17 @@ module _ (R : Region) (l : Layout) (layout : IsLayoutOf R l) where
     pub low-slots : AreLowSlots R l.height l.first class lows
     low-slots = record { has = corner-low; only = low-corner }
 
-    -- the word of the slot after a low one has words beside it
-    low-inside : (row slot : ℕ) → row < l.height → string_bit l.height lows row slot ≡ true → word_place l.height row (slot + 1) + l.height + 1 < size_of l
-    low-inside row slot within low =
-        let (v, inner, of_class, row_is, slot_is) = low-corner row slot within low in
-        subst (λ (r : ℕ). word_place l.height r (slot + 1) + l.height + 1 < size_of l) row_is
-        (subst (λ (s : ℕ). word_place l.height (row_of v) (s + 1) + l.height + 1 < size_of l) slot_is (layout.stands v inner).inside)
+    abbrev IsInside : ℕ → ℕ → Type 0
+    IsInside row slot = (l.height + 2 ≤ word_place l.height row slot) × (word_place l.height row slot + l.height + 3 < size_of l)
 
-    before-inside : (row slot : ℕ) → row < l.height → 1 ≤ slot → string_bit l.height lows row (slot - 1) ≡ true → word_place l.height row slot + l.height + 1 < size_of l
-    before-inside row slot within some low =
-        let same : slot - 1 + 1 ≡ slot = omega arith in
-        subst (λ (s : ℕ). word_place l.height row s + l.height + 1 < size_of l) same (low-inside row (slot - 1) within low)
+    -- a low slot and the slot after it stand in rows of inner corners
+    low-inside : (row slot place : ℕ) → row < l.height → string_bit l.height lows row slot ≡ true → slot ≤ place → place ≤ slot + 1 → IsInside row place
+    low-inside row slot place within low from to =
+        let (v, inner, of_class, row_is, slot_is) = low-corner row slot within low in
+        subst (λ (r : ℕ). IsInside r place) row_is (corner-inner R l layout v place inner (omega (arith, slot_is, from)) (omega (arith, slot_is, to)))
+
+    before-inside : (row slot : ℕ) → row < l.height → 1 ≤ slot → string_bit l.height lows row (slot - 1) ≡ true → IsInside row slot
+    before-inside row slot within some low = low-inside row (slot - 1) slot within low (omega arith) (omega (arith, some))
 
     module _ (free : List ℕ) (are_free : AreFree l.height lows free) where
       pub free-slots : AreFreeSlots l.height lows free
@@ -89,14 +80,17 @@ module _ (R : Region) (l : Layout) (layout : IsLayoutOf R l) where
           go (inr past) =
               past-false l.height free row slot (omega (arith, past, are_free.size))
               ∙ sym (or_from _ _ (past-false l.height lows row slot past)
-              (false_from_ne_true _ (λ low. omega (arith, before-inside row slot within some low, past, slots.size))))
+              (false_from_ne_true _ (λ low. omega (arith, (before-inside row slot within some low).1, past, slots.size))))
+
+      free-place : (row slot : ℕ) → row < l.height → 1 ≤ slot → string_bit l.height free row slot ≡ true → IsInside row slot
+      free-place row slot within some is_free = go (or_cases _ _ (sym (free-slots row slot within some) ∙ is_free))
+        where
+          go : (string_bit l.height lows row slot ≡ true) ⊎ (string_bit l.height lows row (slot - 1) ≡ true) → IsInside row slot
+          go (inl low) = low-inside row slot slot within low (omega arith) (omega arith)
+          go (inr low) = before-inside row slot within some low
 
       pub free-inside : AreInside l.height free
-      free-inside = record { each = inside }
-        where
-          inside : (row slot : ℕ) → row < l.height → 1 ≤ slot → string_bit l.height free row slot ≡ true → word_place l.height row slot + l.height + 1 < length free
-          inside row slot within some is_free = go (or_cases _ _ (sym (free-slots row slot within some) ∙ is_free))
-            where
-              go : (string_bit l.height lows row slot ≡ true) ⊎ (string_bit l.height lows row (slot - 1) ≡ true) → word_place l.height row slot + l.height + 1 < length free
-              go (inl low) = omega (arith, low-inside row slot within low, place-before l.height row slot, slots.size, are_free.size)
-              go (inr low) = omega (arith, before-inside row slot within some low, slots.size, are_free.size)
+      free-inside = record {
+        behind = λ row slot within some is_free. (free-place row slot within some is_free).0;
+        each = λ row slot within some is_free. omega (arith, (free-place row slot within some is_free).1, slots.size, are_free.size);
+      }

@@ -12,10 +12,12 @@ use Rattle.tl_coupling.specs.Carried.{swept}
 use Rattle.tl_string_sweep.specs.declared.slots.Slots.{Slots}
 use Rattle.tl_string_sweep.specs.Slots.{AreSlots}
 
--- No slot of the last words is free.
+-- No slot of the first words or of the last is free: free slots stand in rows of inner corners.
 pub record AreInside (height : ℕ) (free : List ℕ) : Type 0 where
+  pub behind : (row slot : ℕ) → row < height → 1 ≤ slot
+      → IsTrue (string_bit height free row slot) → height + 2 ≤ word_place height row slot
   pub each : (row slot : ℕ) → row < height → 1 ≤ slot
-      → IsTrue (string_bit height free row slot) → word_place height row slot + height + 1 < length free
+      → IsTrue (string_bit height free row slot) → word_place height row slot + height + 3 < length free
 
 -- Where the old strings hold the marks of both ends of a pair, the new ones hold those after a sweep of both.
 abbrev pub AreSweptBoth : Layout → Slots → List ℕ → Strings → Strings → Type 0

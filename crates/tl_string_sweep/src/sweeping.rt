@@ -32,7 +32,7 @@ pub fn sweep_both(layout: &Layout, slots: &Slots, coins: &[u64], both: &mut Stri
         → HoldEnds R layout.now both.new (swept R bits low) (swept R bits high) }
 {
     // Smaller strings have no inner corner.
-    if coins.len() >= 2 * (layout.height + 1) {
+    if coins.len() >= 2 * layout.height + 5 {
         match layout.kind {
             Kind::Square => sweep_squares(layout, slots, coins, both),
             Kind::Triangle => sweep_triangles(layout, slots, coins, both),
@@ -47,7 +47,7 @@ fn sweep_squares(layout: &Layout, slots: &Slots, coins: &[u64], both: &mut Strin
     requires lows { AreOfLayout layout.now slots.now.lows }
     requires free { AreOfLayout layout.now slots.now.free }
     requires coins { length coins.now ≡ size_of layout.now }
-    requires room { 2 * (layout.now.height + 1) ≤ size_of layout.now }
+    requires room { 2 * layout.now.height + 5 ≤ size_of layout.now }
     ensures size { AreOfLayout layout.now both.new }
     ensures swept { AreSweptBoth layout.now slots.now coins.now both.old both.new }
 {
@@ -64,7 +64,7 @@ fn sweep_triangles(layout: &Layout, slots: &Slots, coins: &[u64], both: &mut Str
     requires lows { AreOfLayout layout.now slots.now.lows }
     requires free { AreOfLayout layout.now slots.now.free }
     requires coins { length coins.now ≡ size_of layout.now }
-    requires room { 2 * (layout.now.height + 1) ≤ size_of layout.now }
+    requires room { 2 * layout.now.height + 5 ≤ size_of layout.now }
     ensures size { AreOfLayout layout.now both.new }
     ensures swept { AreSweptBoth layout.now slots.now coins.now both.old both.new }
 {
@@ -88,13 +88,13 @@ fn square_class(
     requires lows { length planes.lows.now ≡ length strings.old }
     requires free { length planes.free.now ≡ length strings.old }
     requires height { 1 ≤ height }
-    requires room { 2 * (height + 1) ≤ length strings.old }
+    requires room { 2 * height + 5 ≤ length strings.old }
     ensures len { length strings.new ≡ length strings.old }
     ensures stepped { AreInside height planes.entry.free.now
         → AreSteppedSquares height others.now planes.entry.coins.now planes.entry.lows.now planes.entry.free.now is_odd strings.old strings.new }
 {
-    let first = height + 1;
-    let end = strings.len() - first;
+    let first = height + 2;
+    let end = strings.len() - (height + 3);
     step_squares(strings, others, planes, height, first, end, is_odd);
 }
 
@@ -113,12 +113,12 @@ fn triangle_class(
     requires lows { length planes.lows.now ≡ length strings.old }
     requires free { length planes.free.now ≡ length strings.old }
     requires height { 1 ≤ height }
-    requires room { 2 * (height + 1) ≤ length strings.old }
+    requires room { 2 * height + 5 ≤ length strings.old }
     ensures len { length strings.new ≡ length strings.old }
     ensures stepped { AreInside height planes.entry.free.now
         → AreSteppedTriangles height class from.now to.now planes.entry.coins.now planes.entry.lows.now planes.entry.free.now strings.old strings.new }
 {
-    let first = height + 1;
-    let end = strings.len() - first;
+    let first = height + 2;
+    let end = strings.len() - (height + 3);
     step_triangles(strings, from, to, planes, height, first, end, class);
 }
