@@ -1,6 +1,5 @@
+pub mod Bits
 pub mod Queued
 pub mod Moves
 pub mod Calls
-pub mod HeightTests
-pub mod Examples
 pub mod RuleExamples

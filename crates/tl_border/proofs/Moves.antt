@@ -12,7 +12,7 @@ use Rattle.tl_border.specs.declared.job.JobRows.{JobRows}
 use Rattle.tl_border.specs.declared.line.PassView.{PassView}
 use Rattle.tl_border.specs.declared.line.Role.{Role}
 use Rattle.tl_border.specs.declared.line.Role.TheVariants.{Opener, Sender, Receiver, Spent}
-use Rattle.tl_border.specs.Rows.{pair, rows_of}
+use Rattle.tl_border.specs.Rows.{bits_of_row, rows_of}
 use Rattle.tl_border.specs.Rule.{opener, spent, sender_of, receiver_of, IsLine, IsOpened, IsUnopened, AreSpent, Keeps, IsAtWork, after_step, after_failure, IsSent, IsGot, HoldsAtMost, HoldsAtLeast}
 use Rattle.tl_border.proofs.Queued.{one_in, one_out}
 
@@ -159,10 +159,10 @@ opens port v job from is items views keeps at =
     keeps
 
 -- ---- a push
-put_in : (items : List Row) (v r : PassView) (x : Row) → slice_get (rows_of v.job v.from) v.count ≡ Some (pair x) → IsLine items v r
+put_in : (items : List Row) (v r : PassView) (x : Row) → slice_get (rows_of v.job v.from) v.count ≡ Some (bits_of_row x) → IsLine items v r
     → IsLine (items ++ x ∷ []) (after_step v (length items + 1)) r
 put_in items v r x next l =
-    let inside = slice_get_within (rows_of v.job v.from) v.count (pair x) next in
+    let inside = slice_get_within (rows_of v.job v.from) v.count (bits_of_row x) next in
     let longer = length-append items (x ∷ []) in
     let least = l.at_least in
     let most = l.at_most in
@@ -175,13 +175,13 @@ put_in items v r x next l =
       one_side = l.one_side;
       sent_within = omega arith;
       got_within = omega arith;
-      queued = map-append pair items (x ∷ []) ∙ ap (λ ps. ps ++ pair x ∷ []) l.queued ∙ sym (one_in (rows_of v.job v.from) r.count v.count (pair x) got next);
+      queued = map-append bits_of_row items (x ∷ []) ∙ ap (λ ps. ps ++ bits_of_row x ∷ []) l.queued ∙ sym (one_in (rows_of v.job v.from) r.count v.count (bits_of_row x) got next);
       at_most = omega arith;
       at_least = omega arith;
       held_within = omega arith;
     }
 
-pub sends : (n port : ℕ) (v : PassView) (x : Row) → n ≡ 2 → v.role ≡ Sender → slice_get (rows_of v.job v.from) v.count ≡ Some (pair x) → Pushes Keeps n port v x (IsSent v)
+pub sends : (n port : ℕ) (v : PassView) (x : Row) → n ≡ 2 → v.role ≡ Sender → slice_get (rows_of v.job v.from) v.count ≡ Some (bits_of_row x) → Pushes Keeps n port v x (IsSent v)
 sends n port v x two role next items views room keeps at =
     let w = after_step v (length items + 1) in
     (w, inr (sender_step items (items ++ x ∷ []) views port v w keeps role at (λ r. put_in items v r x next)), (refl, omega arith))
@@ -191,9 +191,9 @@ finds_full port v role items views keeps at = let known = sender_knows items vie
 
 -- ---- a pop
 taken_out : (items : List Row) (s v : PassView) (x : Row) → IsLine (x ∷ items) s v
-    → IsLine items s (after_step v (length items)) × (slice_get (rows_of v.job v.from) v.count ≡ Some (pair x))
+    → IsLine items s (after_step v (length items)) × (slice_get (rows_of v.job v.from) v.count ≡ Some (bits_of_row x))
 taken_out items s v x l =
-    let out = one_out (rows_of s.job s.from) v.count s.count (pair x) (map pair items) l.queued in
+    let out = one_out (rows_of s.job s.from) v.count s.count (bits_of_row x) (map bits_of_row items) l.queued in
     let below = out.1 in
     let most = l.at_most in (
       record {

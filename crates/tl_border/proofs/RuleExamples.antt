@@ -1,19 +1,23 @@
 -- What a queue of a job may hold, and what it may not.
-use Rattle.std.proofs.Common.{◌≡◌, [], ◌∷◌, length, refl, sym, ◌∙◌, ap, arith, pos, ℤ}
+use Rattle.std.proofs.Common.{◌≡◌, Bool, true, false, [], ◌∷◌, length, refl, sym, ◌∙◌, ap, arith}
 use Rattle.std.specs.Prelude.{List, slice_index_or}
 use Rattle.tl_border.specs.declared.row.Row.{Row}
-use Rattle.tl_border.specs.declared.row.RowPair.{RowPair}
+use Rattle.tl_border.specs.declared.row.RowBits.{RowBits}
 use Rattle.tl_border.specs.declared.row.Side.TheVariants.{Upper}
-use Rattle.tl_border.specs.Rows.{pair}
+use Rattle.tl_border.specs.Rows.{bits_of_row}
 use Rattle.tl_border.specs.Rule.{sender_of, receiver_of, IsLine}
 use Rattle.tl_border.specs.Levels.{level, three_up}
 
--- the first number of the first row
-abbrev first_number : List RowPair → ℤ
-first_number rows = slice_index_or (slice_index_or rows 0 (level (pos 0))).low 0 (pos 0)
+-- whether the first number of a row is odd
+abbrev is_odd : RowBits → Bool
+is_odd row = slice_index_or row.bits 0 false
+
+-- the same of the first row
+abbrev first_is_odd : List RowBits → Bool
+first_is_odd rows = is_odd (slice_index_or rows 0 (level 0))
 
 -- two rows are sent and one is got: the second is in the queue
-second_waits : (row : Row) → pair row ≡ level (pos 2) → IsLine (row ∷ []) (sender_of three_up Upper 2 0 2) (receiver_of three_up Upper 1 0 1)
+second_waits : (row : Row) → bits_of_row row ≡ level 2 → IsLine (row ∷ []) (sender_of three_up Upper 2 0 2) (receiver_of three_up Upper 1 0 1)
 second_waits row is = record {
   sends = refl;
   gets = refl;
@@ -28,13 +32,15 @@ second_waits row is = record {
 }
 
 -- the third row has no turn yet
-not_third : (row : Row) → pair row ≡ level (pos 3) → IsLine (row ∷ []) (sender_of three_up Upper 2 0 2) (receiver_of three_up Upper 1 0 1) → ⊥
-not_third row is line = let e : pos 3 ≡ pos 2 = ap first_number (ap (λ p. p ∷ []) (sym is) ∙ line.queued) in cc e
+not_third : (row : Row) → bits_of_row row ≡ level 3 → IsLine (row ∷ []) (sender_of three_up Upper 2 0 2) (receiver_of three_up Upper 1 0 1) → ⊥
+unfolding level
+not_third row is line = let e : true ≡ false = ap first_is_odd (ap (λ p. p ∷ []) (sym is) ∙ line.queued) in cc e
 
 -- the second row stands behind the first
-not_turned : (first second : Row) → pair first ≡ level (pos 1) → pair second ≡ level (pos 2)
+not_turned : (first second : Row) → bits_of_row first ≡ level 1 → bits_of_row second ≡ level 2
     → IsLine (second ∷ first ∷ []) (sender_of three_up Upper 2 0 2) (receiver_of three_up Upper 0 0 0) → ⊥
-not_turned first second is next line = let e : pos 2 ≡ pos 1 = ap (λ p. slice_index_or p.low 0 (pos 0)) (sym next) ∙ ap first_number line.queued in cc e
+unfolding level
+not_turned first second is next line = let e : false ≡ true = ap is_odd (sym next) ∙ ap first_is_odd line.queued in cc e
 
 -- a row that is sent and not got is there
 not_lost : IsLine [] (sender_of three_up Upper 1 0 1) (receiver_of three_up Upper 0 0 0) → ⊥

@@ -4,7 +4,7 @@ use Rattle.tl_border.specs.declared.row.Row.{Row}
 use Rattle.tl_border.specs.declared.row.Side.{Side}
 use Rattle.tl_border.specs.declared.job.JobRows.{JobRows}
 use Rattle.tl_border.specs.declared.line.PassView.{PassView}
-use Rattle.tl_border.specs.Rows.{pair, rows_of, other}
+use Rattle.tl_border.specs.Rows.{bits_of_row, rows_of, other}
 
 -- The rows sent and received, and how many pushes found the own direction full and how many pops the other
 -- one empty. `ahead` is how many rows the own direction held right after the last push of this end, and
@@ -24,11 +24,11 @@ fresh_end job side = record { job = job; side = side; sent = 0; received = 0; re
 
 -- the row is the next that this end is to send
 abbrev pub IsNextToSend : EndView → Row → Type 0
-IsNextToSend e row = slice_get (rows_of e.job e.side) e.sent ≡ Some (pair row)
+IsNextToSend e row = slice_get (rows_of e.job e.side) e.sent ≡ Some (bits_of_row row)
 
 -- the row is the next that this end is to receive
 abbrev pub IsNextToReceive : EndView → Row → Type 0
-IsNextToReceive e row = slice_get (rows_of e.job (other e.side)) e.received ≡ Some (pair row)
+IsNextToReceive e row = slice_get (rows_of e.job (other e.side)) e.received ≡ Some (bits_of_row row)
 
 -- there was room for the row
 abbrev pub IsSentBy : EndView → EndView → Type 0
@@ -59,4 +59,4 @@ end_view sender receiver = record {
 }
 
 abbrev pub IsOfLength : ℕ → Row → Type 0
-IsOfLength n row = (vec_len row.low ≡ n) × (vec_len row.high ≡ n)
+IsOfLength n row = vec_len row.words ≡ n

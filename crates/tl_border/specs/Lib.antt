@@ -1,4 +1,3 @@
-pub mod Border
 pub mod Rows
 pub mod Rule
 pub mod Ends

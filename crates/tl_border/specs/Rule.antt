@@ -6,7 +6,7 @@ use Rattle.tl_border.specs.declared.row.Side.TheVariants.{Upper}
 use Rattle.tl_border.specs.declared.job.JobRows.{JobRows}
 use Rattle.tl_border.specs.declared.line.PassView.{PassView}
 use Rattle.tl_border.specs.declared.line.Role.TheVariants.{Opener, Sender, Receiver, Spent}
-use Rattle.tl_border.specs.Rows.{pair, rows_of}
+use Rattle.tl_border.specs.Rows.{bits_of_row, rows_of}
 
 abbrev pub no_rows : JobRows
 no_rows = record { upper = []; lower = [] }
@@ -36,7 +36,7 @@ pub record IsLine (items : List Row) (sender receiver : PassView) : Type 0 where
   pub one_side : receiver.from ≡ sender.from
   pub sent_within : sender.count ≤ length (rows_of sender.job sender.from)
   pub got_within : receiver.count ≤ sender.count
-  pub queued : map pair items ≡ drop receiver.count (take sender.count (rows_of sender.job sender.from))
+  pub queued : map bits_of_row items ≡ drop receiver.count (take sender.count (rows_of sender.job sender.from))
   pub at_most : length items ≤ sender.held
   pub at_least : receiver.held ≤ length items
   pub held_within : sender.held ≤ sender.count
@@ -77,7 +77,7 @@ abbrev pub IsSent : PassView → PassView → Type 0
 IsSent v w = (w ≡ after_step v w.held) × (w.held ≤ 2)
 
 abbrev pub IsGot : PassView → Row → PassView → Type 0
-IsGot v row w = (w ≡ after_step v w.held) × (slice_get (rows_of v.job v.from) v.count ≡ Some (pair row))
+IsGot v row w = (w ≡ after_step v w.held) × (slice_get (rows_of v.job v.from) v.count ≡ Some (bits_of_row row))
 
 -- ---- what a pass learns of a queue that it finds full or empty
 abbrev pub HoldsAtMost : PassView → List Row → Type 0

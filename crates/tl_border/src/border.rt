@@ -28,9 +28,8 @@ const SPARE: usize = 4;
 fn blank_row(alloc: Global, length: u32) -> Result<Row, AllocError>
     ensures { IfOk result (λ row. IsOfLength length row) }
 {
-    let low = Vec::from_elem(alloc, 0, length as usize)?;
-    let high = Vec::from_elem(alloc, 0, length as usize)?;
-    Ok(Row { low, high })
+    let words = Vec::from_elem(alloc, 0, length as usize)?;
+    Ok(Row { words })
 }
 
 fn blank_rows(alloc: Global, length: u32) -> Result<Vec<Row>, AllocError>
@@ -45,7 +44,7 @@ fn blank_rows(alloc: Global, length: u32) -> Result<Vec<Row>, AllocError>
 }
 
 impl Border {
-    /// The two ends of a border for this job, with nothing sent, and four rows of this length.
+    /// The two ends of a border for this job, with nothing sent, and four rows of so many words.
     pub fn open<J: RowJob>(alloc: Global, job: &J, length: u32) -> Result<Opened, AllocError>
         ensures ends { IfOk result (λ o. (o.upper ≡ fresh_end (J.rows job.now) Upper) × (o.lower ≡ fresh_end (J.rows job.now) Lower)) }
         ensures count { IfOk result (λ o. vec_len o.rows ≡ 4) }

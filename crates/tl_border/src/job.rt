@@ -1,10 +1,10 @@
 //! What a border is opened for.
-use crate::row::{Row, RowPair};
+use crate::row::{Row, RowBits};
 
 /// The rows that each side sends, in their order. No value of it is made.
 pub struct JobRows {
-    pub upper: [RowPair; 0],
-    pub lower: [RowPair; 0],
+    pub upper: [RowBits; 0],
+    pub lower: [RowBits; 0],
 }
 
 /// A job fixes what each side of a border sends. Contracts alone read its lists.

@@ -10,7 +10,7 @@ mod row;
 pub use border::{Border, Opened};
 pub use end::End;
 pub use job::{JobRows, ListedRows, RowJob};
-pub use row::{Row, RowPair, Side};
+pub use row::{Row, RowBits, Side, slots_of_rows};
 
 #[cfg(test)]
 mod tests;

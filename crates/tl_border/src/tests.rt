@@ -1,7 +1,7 @@
 //! Both ends of a border, in turn on one thread, and on a thread each.
-ghost use Rattle.std.specs.Prelude.{◌≡◌, ◌+◌, ◌≤◌, map, pos, IfOk};
+ghost use Rattle.std.specs.Prelude.{◌≡◌, ◌+◌, ◌≤◌, map, IfOk};
 ghost use Rattle.tl_lists.specs.Lists.{upto};
-ghost use Rattle.tl_border.specs.Rows.{pair, listed, rows_of};
+ghost use Rattle.tl_border.specs.Rows.{bits_of_row, listed, rows_of};
 ghost use Rattle.tl_border.specs.Ends.{IsNextToSend, IsSentBy, IsReceivedBy};
 ghost use Rattle.tl_border.specs.Levels.{level, three_up};
 
@@ -13,13 +13,12 @@ use std::test::Fail;
 use std::thread;
 use std::thread::{Threads, join};
 
-// Two corners with one number.
-fn level_row(alloc: Global, number: i32) -> Result<Row, AllocError>
-    ensures { IfOk result (λ row. pair row ≡ level number) }
+// Two words with one number.
+fn level_row(alloc: Global, number: u64) -> Result<Row, AllocError>
+    ensures { IfOk result (λ row. bits_of_row row ≡ level number) }
 {
-    let low = vec![in alloc; number, number]?;
-    let high = vec![in alloc; number, number]?;
-    Ok(Row { low, high })
+    let words = vec![in alloc; number, number]?;
+    Ok(Row { words })
 }
 
 fn three_rows(alloc: Global) -> Result<ListedRows, AllocError>
@@ -44,9 +43,8 @@ impl RowJob for ToAndFro {
     ghost rows = { λ _. to_and_fro };
 }
 
-fn assert_level(rt: &impl Abort, row: &Row, number: i32) {
-    assert_eq!(rt; row.low.as_slice(), [number, number].as_slice());
-    assert_eq!(rt; row.high.as_slice(), [number, number].as_slice());
+fn assert_level(rt: &impl Abort, row: &Row, number: u64) {
+    assert_eq!(rt; row.words.as_slice(), [number, number].as_slice());
 }
 
 #[test]
@@ -110,7 +108,7 @@ fn a_received_row_is_sent_back(rt: HostRuntime) -> Result<(), Fail> {
     let mut upper = moved(upper);
     let mut lower = moved(lower);
     for row in &rows {
-        assert_eq!(rt; (row.low.len(), row.high.len()), (2, 2));
+        assert_eq!(rt; row.words.len(), 2);
     }
     let row = level_row(alloc, 7)?;
     let row = sent_on(&rt, &mut upper, &mut lower, row);
@@ -135,11 +133,11 @@ impl RowJob for Rising {
 
 fn rising_rows(alloc: Global, count: u32) -> Result<Vec<Row>, AllocError>
     requires { count ≤ 1000 }
-    ensures { IfOk result (λ rows. map pair rows.items ≡ map (λ n. level (pos n)) (upto count)) }
+    ensures { IfOk result (λ rows. map bits_of_row rows.items ≡ map level (upto count)) }
 {
     let mut rows = Vec::with_capacity(alloc, count as usize)?;
     for number in 0..count {
-        rows.push(level_row(alloc, number as i32)?)?;
+        rows.push(level_row(alloc, u64::from(number))?)?;
     }
     Ok(rows)
 }
@@ -162,7 +160,7 @@ fn send_patiently<R: Wait>(rt: &R, end: &mut End, row: Row)
 }
 
 fn send_all<R: Wait>(rt: &R, mut end: End, rows: Vec<Row>)
-    requires rows { map pair rows.items ≡ rows_of end.job end.side }
+    requires rows { map bits_of_row rows.items ≡ rows_of end.job end.side }
     requires first { end.sent ≡ 0 }
 {
     for row in rows {
@@ -181,9 +179,8 @@ fn receive_patiently<R: Wait>(rt: &R, end: &mut End) -> Row {
     unreachable!()
 }
 
-fn is_level(row: &Row, number: i32) -> bool {
-    let wanted = [number, number];
-    row.low.as_slice() == wanted.as_slice() && row.high.as_slice() == wanted.as_slice()
+fn is_level(row: &Row, number: u64) -> bool {
+    row.words.as_slice() == [number, number].as_slice()
 }
 
 // How many of the rows come in their order.
@@ -193,7 +190,7 @@ fn receive_all<R: Wait>(rt: &R, mut end: End, count: u32) -> u32
     let mut in_order = 0;
     for number in 0..count {
         let row = receive_patiently(rt, &mut end);
-        if is_level(&row, number as i32) {
+        if is_level(&row, u64::from(number)) {
             in_order += 1;
         }
     }
@@ -214,7 +211,7 @@ fn relay<R: Threads + Wait + Sync>(rt: &R, alloc: Global, count: u32) -> Result<
     let (_, in_order) = join(
         rt,
         move ||
-            requires { (map pair rows.items ≡ rows_of upper.job upper.side) × (upper.sent ≡ 0) }
+            requires { (map bits_of_row rows.items ≡ rows_of upper.job upper.side) × (upper.sent ≡ 0) }
         { send_all(rt, upper, rows) },
         move ||
             requires { count ≤ 1000 }

@@ -3,7 +3,7 @@ use Rattle.std.proofs.Common.{◌≡◌, ℕ, ◌+◌, ◌-◌, ◌<◌, ◌≤�
 use Rattle.std.proofs.lemmas.Bool.{cases_lt}
 use Rattle.tl_strings.specs.Strings.{string_bit}
 use Rattle.tl_strings.specs.Steps.{coin_bit, square_bit, triangle_bit}
-use Rattle.tl_packing.specs.Packing.{AreSteppedSquares, AreSteppedTriangles}
+use Rattle.tl_packing.specs.Packing.{AreSteppedSquareBits, AreSteppedTriangleBits}
 use Rattle.tl_packing.proofs.Bits.{differ-false}
 
 -- one slot
@@ -17,26 +17,25 @@ square-bound odd here west east north south coin is_free e = ap (square_bit odd 
 pub triangle-bound : (class : ℕ) (here a b c d e f coin is_free : Bool) → is_free ≡ false → triangle_bit class here a b c d e f coin is_free ≡ here
 triangle-bound class here a b c d e f coin is_free bound = ap (triangle_bit class here a b c d e f coin) bound ∙ differ-false here
 
--- all slots of a class
-pub squares-bound : (height : ℕ) (others coins lows free : List ℕ) (odd : Bool) (old new : List ℕ) → AreSteppedSquares height others coins lows free odd old new
-    → (row slot : ℕ) → 1 ≤ row → row < height → string_bit height free row slot ≡ false → string_bit height new row slot ≡ string_bit height old row slot
-squares-bound height others coins lows free odd old new are row slot above within bound = go (cases_lt slot 64)
+-- all slots of a class in some rows
+pub square_bits-bound : (from end : ℕ) (odd : Bool) (others coin free old new : ℕ → ℕ → Bool) → AreSteppedSquareBits from end odd others coin free old new
+    → (row slot : ℕ) → from ≤ row → row < end → free row slot ≡ false → new row slot ≡ old row slot
+square_bits-bound from end odd others coin free old new are row slot above within bound = go (cases_lt slot 64)
   where
-    go : (slot < 64) ⊎ (64 ≤ slot) → string_bit height new row slot ≡ string_bit height old row slot
+    go : (slot < 64) ⊎ (64 ≤ slot) → new row slot ≡ old row slot
     go (inl before) = are.kept row slot above within before
     go (inr behind) =
         are.stepped row slot above within behind
-        ∙ square-bound odd (string_bit height old row slot) (string_bit height others row (slot - 1)) (string_bit height others row (slot + 1))
-        (string_bit height others (row - 1) slot) (string_bit height others (row + 1) slot) (coin_bit height coins lows row slot) (string_bit height free row slot) bound
+        ∙ square-bound odd (old row slot) (others row (slot - 1)) (others row (slot + 1)) (others (row - 1) slot) (others (row + 1) slot)
+        (coin row slot) (free row slot) bound
 
-pub triangles-bound : (height class : ℕ) (from to coins lows free old new : List ℕ) → AreSteppedTriangles height class from to coins lows free old new
-    → (row slot : ℕ) → 1 ≤ row → row < height → string_bit height free row slot ≡ false → string_bit height new row slot ≡ string_bit height old row slot
-triangles-bound height class from to coins lows free old new are row slot above within bound = go (cases_lt slot 64)
+pub triangle_bits-bound : (from end class : ℕ) (next last coin free old new : ℕ → ℕ → Bool) → AreSteppedTriangleBits from end class next last coin free old new
+    → (row slot : ℕ) → from ≤ row → row < end → free row slot ≡ false → new row slot ≡ old row slot
+triangle_bits-bound from end class next last coin free old new are row slot above within bound = go (cases_lt slot 64)
   where
-    go : (slot < 64) ⊎ (64 ≤ slot) → string_bit height new row slot ≡ string_bit height old row slot
+    go : (slot < 64) ⊎ (64 ≤ slot) → new row slot ≡ old row slot
     go (inl before) = are.kept row slot above within before
     go (inr behind) =
         are.stepped row slot above within behind
-        ∙ triangle-bound class (string_bit height old row slot) (string_bit height from row (slot - 1)) (string_bit height from (row - 1) slot)
-        (string_bit height from (row + 1) (slot + 1)) (string_bit height to row (slot + 1)) (string_bit height to (row - 1) (slot - 1))
-        (string_bit height to (row + 1) slot) (coin_bit height coins lows row slot) (string_bit height free row slot) bound
+        ∙ triangle-bound class (old row slot) (next row (slot - 1)) (next (row - 1) slot) (next (row + 1) (slot + 1))
+        (last row (slot + 1)) (last (row - 1) (slot - 1)) (last (row + 1) slot) (coin row slot) (free row slot) bound

@@ -1,16 +1,14 @@
 -- The slots of a class: which are free, and the coin of each.
-use Rattle.std.proofs.Common.{◌≡◌, ℕ, ◌+◌, ◌-◌, ◌<◌, ◌≤◌, ◌⊎◌, inl, inr, Bool, true, false, ◌&&◌, ◌||◌, List, refl, sym, ◌∙◌, ap, subst, arith, Some}
-use Rattle.std.specs.Prelude.{slice_get}
+use Rattle.std.proofs.Common.{◌≡◌, ℕ, ◌+◌, ◌-◌, ◌<◌, ◌≤◌, ◌⊎◌, inl, inr, Bool, true, false, ◌&&◌, ◌||◌, List, refl, sym, ◌∙◌, ap, subst, arith}
 use Rattle.std.proofs.lemmas.Bool.{cases_eq, or_from, or_left, or_right, eqb-true, false_from_ne_true}
 use Rattle.tl_definitions.specs.declared.Corner.{Corner}
-use Rattle.tl_definitions.specs.Region.{Region, inner_corners, is_corner_of, is_inner}
+use Rattle.tl_definitions.specs.Region.{Region, is_corner_of, is_inner}
 use Rattle.tl_definitions.specs.Accepted.{Accepted}
-use Rattle.tl_definitions.proofs.InnerNumbers.{inner-at}
 use Rattle.tl_closing.proofs.Stated.{corner-within, inner-of_region}
 use Rattle.tl_steps.specs.Stepping.{is_of_class}
 use Rattle.tl_strings.specs.Strings.{column, row_of, slot_of, string_bit}
 use Rattle.tl_strings.specs.Steps.{coin_bit}
-use Rattle.tl_packing.specs.Packing.{AreFreeSlots, AreLowSlots, HasCoins, IsFrame}
+use Rattle.tl_packing.specs.Packing.{AreFreeSlots, AreLowSlots, IsFrame}
 use Rattle.tl_packing.proofs.Places.{inner-corner, one-corner, region-corner, slot-not_first}
 
 -- what holds at a slot and at the one after it holds at either end
@@ -116,19 +114,17 @@ module _ (R : Region) (height first k : ℕ) (accepted : Accepted R) (frame : Is
 
   -- ---- coins
 
-  module _ (bits : ℕ → Bool) (coins : List ℕ) (has : HasCoins R height first bits coins) where
+  module _ (coins : List ℕ) where
     abbrev is_coin : Corner → ℕ → Bool
     is_coin v slot = string_bit height coins (row_of v) slot
 
-    -- both slots of an inner corner of the class have its coin
-    pub inner-coin : (v : Corner) (i shift : ℕ) → slice_get (inner_corners R) i ≡ Some v → is_of_class R k v ≡ true → shift ≤ 1
-        → coin_bit height coins lows (row_of v) (slot_of R.kind first v + shift) ≡ bits i
-    inner-coin v i shift at of_class l =
-        let inner = inner-at R v i at in
+    -- both slots of an inner corner of the class have the coin at its low slot
+    pub inner-coin : (bit : Bool) (v : Corner) (shift : ℕ) → is_inner R v ≡ true → is_of_class R k v ≡ true → is_coin v (slot_of R.kind first v) ≡ bit → shift ≤ 1
+        → coin_bit height coins lows (row_of v) (slot_of R.kind first v + shift) ≡ bit
+    inner-coin bit v shift inner of_class coin l =
         let own = low.has v inner of_class in
-        let coin = has i v at in
-        at-end (λ (s : ℕ). coin_bit height coins lows (row_of v) s ≡ bits i) (slot_of R.kind first v) shift l
+        at-end (λ (s : ℕ). coin_bit height coins lows (row_of v) s ≡ bit) (slot_of R.kind first v) shift l
         (first-coin (is_coin v (slot_of R.kind first v)) (is_coin v (slot_of R.kind first v - 1)) _ _ own (inner-before v inner of_class) ∙ coin)
         (second-coin (is_coin v (slot_of R.kind first v + 1)) (is_coin v (slot_of R.kind first v + 1 - 1)) _ _ (inner-after v inner of_class)
         (subst (λ (s : ℕ). is_low v s ≡ true) (back-one (slot_of R.kind first v)) own)
-        ∙ subst (λ (s : ℕ). is_coin v s ≡ bits i) (back-one (slot_of R.kind first v)) coin)
+        ∙ subst (λ (s : ℕ). is_coin v s ≡ bit) (back-one (slot_of R.kind first v)) coin)

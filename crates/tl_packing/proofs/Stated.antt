@@ -9,6 +9,6 @@ pub use Rattle.tl_packing.proofs.Bits.{square-stepped, triangle-stepped}
 -- The slots of a class: which are low, which are free, and their coins.
 pub use Rattle.tl_packing.proofs.Slots.{inner-after, inner-before, inner-coin, inner-free, outer-free, row-within}
 -- A slot that isn't free keeps its bit.
-pub use Rattle.tl_packing.proofs.Bounds.{square-bound, squares-bound, triangle-bound, triangles-bound}
--- A step at all slots of a class, for one end of a pair.
-pub use Rattle.tl_packing.proofs.Swept.{squares-held, triangles-held}
+pub use Rattle.tl_packing.proofs.Bounds.{square-bound, square_bits-bound, triangle-bound, triangle_bits-bound}
+-- A step at all slots of a class, for one end of a pair, and the number of an inner corner.
+pub use Rattle.tl_packing.proofs.Swept.{numbered, square_bits-held, squares-held, triangle_bits-held, triangles-held}

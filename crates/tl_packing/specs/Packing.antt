@@ -21,12 +21,16 @@ pub record IsFrame (R : Region) (height first : ℕ) : Type 0 where
 abbrev pub IsReached : Region → Corner → Type 0
 IsReached R v = (w : Corner) × IsTrue (is_inner R w) × (column R.kind v ≤ column R.kind w + 1)
 
--- Strings of words, one for each class, hold the mark of each corner at its slot: for the low end of a pair of tilings with the
+-- Bits of slots, by class and row, hold the mark of each corner at its slot: for the low end of a pair of tilings with the
 -- shift 0, and for the high end one slot further, with the shift 1. Corners more than a column before the first, or behind the last
 -- inner corner, are beside none, and need no mark.
+abbrev pub HoldsBits : Region → ℕ → List ℤ → (ℕ → ℕ → ℕ → Bool) → ℕ → Type 0
+HoldsBits R first numbers bits shift = (v : Corner) → IsTrue (is_corner_of R v) → first ≤ column R.kind v + 1 → IsReached R v
+    → bits (class_of R.kind v) (row_of v) (slot_of R.kind first v + shift) ≡ mark R numbers v
+
+-- the same of the bits of strings of words, one for each class
 abbrev pub HoldsMarks : Region → ℕ → ℕ → List ℤ → (ℕ → List ℕ) → ℕ → Type 0
-HoldsMarks R height first numbers strings shift = (v : Corner) → IsTrue (is_corner_of R v) → first ≤ column R.kind v + 1 → IsReached R v
-    → string_bit height (strings (class_of R.kind v)) (row_of v) (slot_of R.kind first v + shift) ≡ mark R numbers v
+HoldsMarks R height first numbers strings shift = HoldsBits R first numbers (λ class. string_bit height (strings class)) shift
 
 -- both ends of a pair in the same strings
 pub record HoldsBoth (R : Region) (height first : ℕ) (low high : List ℤ) (strings : ℕ → List ℕ) : Type 0 where
@@ -79,29 +83,53 @@ abbrev pub HasCoins : Region → ℕ → ℕ → (ℕ → Bool) → List ℕ →
 HasCoins R height first bits coins = (i : ℕ) (v : Corner) → slice_get (inner_corners R) i ≡ Some v
     → string_bit height coins (row_of v) (slot_of R.kind first v) ≡ bits i
 
+-- the same of the coins of one class, at the low slot and at the one after it
+abbrev pub HasCoinBits : Region → ℕ → ℕ → (ℕ → Bool) → (ℕ → ℕ → Bool) → Type 0
+HasCoinBits R first k bits coin = (i shift : ℕ) (v : Corner) → slice_get (inner_corners R) i ≡ Some v → IsTrue (is_of_class R k v) → shift ≤ 1
+    → coin (row_of v) (slot_of R.kind first v + shift) ≡ bits i
+
 -- ---- a step at all slots of a class
 
--- No strings but those of one class have changed.
+-- No bits but those of one class have changed.
+abbrev pub AreSameBitsBut : ℕ → (ℕ → ℕ → ℕ → Bool) → (ℕ → ℕ → ℕ → Bool) → Type 0
+AreSameBitsBut k bits new = (class row slot : ℕ) → class ≢ k → new class row slot ≡ bits class row slot
+
+-- The same of strings.
 abbrev pub AreSameBut : ℕ → (ℕ → List ℕ) → (ℕ → List ℕ) → Type 0
 AreSameBut k strings new = (class : ℕ) → class ≢ k → new class ≡ strings class
 
--- The new strings of a class are the old ones after a step, by those of the other class. The slots of the first strip are kept.
-pub record AreSteppedSquares (height : ℕ) (others coins lows free : List ℕ) (is_odd : Bool) (old new : List ℕ) : Type 0 where
-  pub stepped : (row slot : ℕ) → 1 ≤ row → row < height → 64 ≤ slot
-      → string_bit height new row slot
-      ≡ square_bit is_odd (string_bit height old row slot)
-      (string_bit height others row (slot - 1)) (string_bit height others row (slot + 1))
-      (string_bit height others (row - 1) slot) (string_bit height others (row + 1) slot)
-      (coin_bit height coins lows row slot) (string_bit height free row slot)
-  pub kept : (row slot : ℕ) → 1 ≤ row → row < height → slot < 64 → string_bit height new row slot ≡ string_bit height old row slot
+-- In the rows from the first to before the end, the new bits of a class are the old ones after a step, by those of the other
+-- class. The slots of the first strip are kept.
+pub record AreSteppedSquareBits (from end : ℕ) (is_odd : Bool) (others coin free old new : ℕ → ℕ → Bool) : Type 0 where
+  pub stepped : (row slot : ℕ) → from ≤ row → row < end → 64 ≤ slot
+      → new row slot
+      ≡ square_bit is_odd (old row slot) (others row (slot - 1)) (others row (slot + 1)) (others (row - 1) slot) (others (row + 1) slot)
+      (coin row slot) (free row slot)
+  pub kept : (row slot : ℕ) → from ≤ row → row < end → slot < 64 → new row slot ≡ old row slot
 
--- The same on the triangular lattice, by the strings of the class after it, from which edges come, and of the one after that,
--- to which they lead.
-pub record AreSteppedTriangles (height class : ℕ) (from to coins lows free old new : List ℕ) : Type 0 where
-  pub stepped : (row slot : ℕ) → 1 ≤ row → row < height → 64 ≤ slot
-      → string_bit height new row slot
-      ≡ triangle_bit class (string_bit height old row slot)
-      (string_bit height from row (slot - 1)) (string_bit height from (row - 1) slot) (string_bit height from (row + 1) (slot + 1))
-      (string_bit height to row (slot + 1)) (string_bit height to (row - 1) (slot - 1)) (string_bit height to (row + 1) slot)
-      (coin_bit height coins lows row slot) (string_bit height free row slot)
-  pub kept : (row slot : ℕ) → 1 ≤ row → row < height → slot < 64 → string_bit height new row slot ≡ string_bit height old row slot
+-- The same on the triangular lattice, by the bits of the class after it, from which edges come, and of the one after that, to
+-- which they lead.
+pub record AreSteppedTriangleBits (from end class : ℕ) (next last coin free old new : ℕ → ℕ → Bool) : Type 0 where
+  pub stepped : (row slot : ℕ) → from ≤ row → row < end → 64 ≤ slot
+      → new row slot
+      ≡ triangle_bit class (old row slot) (next row (slot - 1)) (next (row - 1) slot) (next (row + 1) (slot + 1))
+      (last row (slot + 1)) (last (row - 1) (slot - 1)) (last (row + 1) slot) (coin row slot) (free row slot)
+  pub kept : (row slot : ℕ) → from ≤ row → row < end → slot < 64 → new row slot ≡ old row slot
+
+-- the same of strings of words
+abbrev pub AreSteppedSquaresIn : ℕ → ℕ → ℕ → List ℕ → List ℕ → List ℕ → List ℕ → Bool → List ℕ → List ℕ → Type 0
+AreSteppedSquaresIn height from end others coins lows free is_odd old new =
+    AreSteppedSquareBits from end is_odd (string_bit height others) (coin_bit height coins lows) (string_bit height free)
+    (string_bit height old) (string_bit height new)
+
+abbrev pub AreSteppedTrianglesIn : ℕ → ℕ → ℕ → ℕ → List ℕ → List ℕ → List ℕ → List ℕ → List ℕ → List ℕ → List ℕ → Type 0
+AreSteppedTrianglesIn height from end class next last coins lows free old new =
+    AreSteppedTriangleBits from end class (string_bit height next) (string_bit height last) (coin_bit height coins lows) (string_bit height free)
+    (string_bit height old) (string_bit height new)
+
+-- and in all rows but the first
+abbrev pub AreSteppedSquares : ℕ → List ℕ → List ℕ → List ℕ → List ℕ → Bool → List ℕ → List ℕ → Type 0
+AreSteppedSquares height others coins lows free is_odd old new = AreSteppedSquaresIn height 1 height others coins lows free is_odd old new
+
+abbrev pub AreSteppedTriangles : ℕ → ℕ → List ℕ → List ℕ → List ℕ → List ℕ → List ℕ → List ℕ → List ℕ → Type 0
+AreSteppedTriangles height class next last coins lows free old new = AreSteppedTrianglesIn height 1 height class next last coins lows free old new

@@ -15,7 +15,7 @@ ghost use Rattle.tl_definitions.specs.Heights.{AreLawful};
 ghost use Rattle.tl_steps.specs.Stepping.{AreSwept, is_of_class};
 ghost use Rattle.tl_strings.specs.Strings.{column, row_of, slot_of, string_bit};
 ghost use Rattle.tl_strings.specs.Steps.{coin_bit};
-ghost use Rattle.tl_packing.specs.Packing.{AreBesideSquare, AreBesideTriangle, AreFreeSlots, AreLowSlots, AreSameBut, AreSteppedSquares, AreSteppedTriangles, HasCoins, HoldsBoth, IsFrame};
+ghost use Rattle.tl_packing.specs.Packing.{AreBesideSquare, AreBesideTriangle, AreFreeSlots, AreLowSlots, AreSameBut, AreSameBitsBut, AreSteppedSquareBits, AreSteppedSquares, AreSteppedTriangleBits, AreSteppedTriangles, HasCoinBits, HasCoins, HoldsBits, HoldsBoth, IsFrame};
 
 /// The corners beside an inner corner are of the region, and have the rows and the slots beside it that a step reads. Its own
 /// slot is in no first strip.
@@ -73,4 +73,23 @@ pub fn a_class_in_strings()
         → AreSameBut k strings new
         → AreSteppedTriangles height k (strings ((k + 1) % 3)) (strings ((k + 2) % 3)) coins lows free (strings k) (new k)
         → HoldsBoth R height first low high strings → HoldsBoth R height first low' high' new }
+{}
+
+/// The same of bits by class, row and slot, for the marks of one end, with a coin for each slot.
+pub fn a_class_in_bits()
+    ensures squares { (R : Region) (height first k shift : ℕ) (numbers others : List ℤ) (bits : ℕ → Bool)
+        (old new : ℕ → ℕ → ℕ → Bool) (coin : ℕ → ℕ → Bool) (lows free : List ℕ) → R.kind ≡ Square → Accepted R
+        → IsFrame R height first → AreLawful R numbers → AreSwept R numbers others bits (is_of_class R k)
+        → HasCoinBits R first k bits coin → AreLowSlots R height first k lows → AreFreeSlots height lows free
+        → AreSameBitsBut k old new
+        → AreSteppedSquareBits 1 height (k == 1) (old ((k + 1) % 2)) coin (string_bit height free) (old k) (new k)
+        → shift ≤ 1 → HoldsBits R first numbers old shift → HoldsBits R first others new shift }
+    ensures triangles { (R : Region) (height first k shift : ℕ) (numbers others : List ℤ) (bits : ℕ → Bool)
+        (old new : ℕ → ℕ → ℕ → Bool) (coin : ℕ → ℕ → Bool) (lows free : List ℕ) → R.kind ≡ Triangle → Accepted R
+        → IsFrame R height first → AreLawful R numbers → AreSwept R numbers others bits (is_of_class R k)
+        → HasCoinBits R first k bits coin → AreLowSlots R height first k lows → AreFreeSlots height lows free
+        → AreSameBitsBut k old new
+        → AreSteppedTriangleBits 1 height k (old ((k + 1) % 3)) (old ((k + 2) % 3)) coin (string_bit height free)
+        (old k) (new k)
+        → shift ≤ 1 → HoldsBits R first numbers old shift → HoldsBits R first others new shift }
 {}

@@ -23,10 +23,10 @@ use Rattle.tl_string_sweep.proofs.Inner.{frame-of, free-inside, free-slots, inne
 use Rattle.tl_string_sweep.proofs.OneClass.{AreEnds, AreSame, squares-class, triangles-class, with_class}
 
 -- a sweep by its classes
-swept-squares : (R : Region) (bits : ℕ → Bool) (numbers : List ℤ) → R.kind ≡ Square → swept R bits numbers ≡ class_swept R bits 1 (class_swept R bits 0 numbers)
+pub swept-squares : (R : Region) (bits : ℕ → Bool) (numbers : List ℤ) → R.kind ≡ Square → swept R bits numbers ≡ class_swept R bits 1 (class_swept R bits 0 numbers)
 swept-squares R bits numbers kind = ap (λ (k : Kind). fold (λ h class. class_swept R bits class h) numbers (upto (classes k))) kind
 
-swept-triangles : (R : Region) (bits : ℕ → Bool) (numbers : List ℤ) → R.kind ≡ Triangle
+pub swept-triangles : (R : Region) (bits : ℕ → Bool) (numbers : List ℤ) → R.kind ≡ Triangle
     → swept R bits numbers ≡ class_swept R bits 2 (class_swept R bits 1 (class_swept R bits 0 numbers))
 swept-triangles R bits numbers kind = ap (λ (k : Kind). fold (λ h class. class_swept R bits class h) numbers (upto (classes k))) kind
 

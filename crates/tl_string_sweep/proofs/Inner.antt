@@ -22,7 +22,7 @@ use Rattle.tl_packed.proofs.InnerWords.{corner-inner}
 use Rattle.tl_string_sweep.specs.Sweeps.{AreInside}
 
 -- no bit is set past the words
-past-false : (height : ℕ) (words : List ℕ) (row slot : ℕ) → length words ≤ word_place height row slot → string_bit height words row slot ≡ false
+pub past-false : (height : ℕ) (words : List ℕ) (row slot : ℕ) → length words ≤ word_place height row slot → string_bit height words row slot ≡ false
 past-false height words row slot past =
     (λ i. bit_at (get_or_past words (word_place height row slot) 0 past i) (slot % 64) == 1) ∙ ap (λ (bit : ℕ). bit == 1) (bit_at-zero (slot % 64))
 

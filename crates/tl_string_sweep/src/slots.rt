@@ -35,8 +35,8 @@ impl Slots {
         Ok(Slots { lows, free })
     }
 
-    // What the steps of class 0 read besides the strings.
-    pub(crate) fn first<'a>(&'a self, coins: &'a [u64]) -> Planes<'a>
+    /// What the steps of class 0 read besides the strings.
+    pub fn first<'a>(&'a self, coins: &'a [u64]) -> Planes<'a>
         ensures coins { result.coins.now ≡ coins.now }
         ensures lows { result.lows.now ≡ self.now.lows.first.items }
         ensures free { result.free.now ≡ self.now.free.first.items }
@@ -48,8 +48,8 @@ impl Slots {
         }
     }
 
-    // The same of class 1.
-    pub(crate) fn second<'a>(&'a self, coins: &'a [u64]) -> Planes<'a>
+    /// The same of class 1.
+    pub fn second<'a>(&'a self, coins: &'a [u64]) -> Planes<'a>
         ensures coins { result.coins.now ≡ coins.now }
         ensures lows { result.lows.now ≡ self.now.lows.second.items }
         ensures free { result.free.now ≡ self.now.free.second.items }
@@ -61,8 +61,8 @@ impl Slots {
         }
     }
 
-    // The same of class 2.
-    pub(crate) fn third<'a>(&'a self, coins: &'a [u64]) -> Planes<'a>
+    /// The same of class 2.
+    pub fn third<'a>(&'a self, coins: &'a [u64]) -> Planes<'a>
         ensures coins { result.coins.now ≡ coins.now }
         ensures lows { result.lows.now ≡ self.now.lows.third.items }
         ensures free { result.free.now ≡ self.now.free.third.items }

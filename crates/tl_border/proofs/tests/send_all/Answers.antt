@@ -7,14 +7,14 @@ use Rattle.std.proofs.lemmas.Iterator.Consumers.{YieldsList-turn}
 use Rattle.tl_border.specs.declared.row.Row.{Row}
 use Rattle.tl_border.specs.declared.row.Side.{Side}
 use Rattle.tl_border.specs.declared.job.JobRows.{JobRows}
-use Rattle.tl_border.specs.Rows.{pair, rows_of}
+use Rattle.tl_border.specs.Rows.{bits_of_row, rows_of}
 use Rattle.tl_border.proofs.tests.send_all.Goals as goal
 
-next : (job other : JobRows) (side side' : Side) (sent k : ℕ) (rows : List Row) (row : Row) → other ≡ job → side' ≡ side → sent ≡ k → map pair rows ≡ rows_of job side → k < length rows → row ≡ get_or rows k row
-    → slice_get (rows_of other side') sent ≡ Some (pair row)
+next : (job other : JobRows) (side side' : Side) (sent k : ℕ) (rows : List Row) (row : Row) → other ≡ job → side' ≡ side → sent ≡ k → map bits_of_row rows ≡ rows_of job side → k < length rows → row ≡ get_or rows k row
+    → slice_get (rows_of other side') sent ≡ Some (bits_of_row row)
 next job other side side' sent k rows row same_job same_side same_sent are near is =
     ap (λ j. slice_get (rows_of j side') sent) same_job ∙ (ap (λ s. slice_get (rows_of job s) sent) same_side ∙ (ap (λ n. slice_get (rows_of job side) n) same_sent
-    ∙ (ap (λ rs. slice_get rs k) (sym are) ∙ (slice_get-map pair rows k ∙ ap (λ o. option_map pair o) (slice_get_read rows (length rows) k row refl near is)))))
+    ∙ (ap (λ rs. slice_get rs k) (sym are) ∙ (slice_get-map bits_of_row rows k ∙ ap (λ o. option_map bits_of_row o) (slice_get_read rows (length rows) k row refl near is)))))
 
 pub send_patiently-requires : goal.send_patiently-requires
 send_patiently-requires g c = let begun = c.into_iter-row-iterator.ensures.into_iter_gives in

@@ -1,0 +1,7 @@
+mod Begun
+mod Entries
+mod Opened
+mod Received
+mod Rows
+mod Sides
+mod Swept

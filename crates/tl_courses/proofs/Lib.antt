@@ -1,0 +1,5 @@
+mod Counted
+mod Held
+mod CoinBits
+mod Rows
+pub mod Stated

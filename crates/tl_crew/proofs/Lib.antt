@@ -1,0 +1,4 @@
+mod Beside
+mod Begun
+mod Same
+mod Stored
