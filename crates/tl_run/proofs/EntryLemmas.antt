@@ -1,4 +1,4 @@
--- From entries that are written one after another to an answer in entries.
+-- From entries that are put one after another to an answer in entries.
 use Rattle.std.proofs.Common.{◌≡◌, ℕ, zero, suc, ◌+◌, ◌-◌, ◌<◌, Bool, true, false, List, [], ◌∷◌, ◌++◌, length, refl, sym, ◌∙◌, ap, subst, arith, append_assoc, append-nil, length-append}
 use Rattle.std.specs.Prelude.{◌||◌, if◌then◌else◌}
 use Rattle.std.specs.List.{list_any}
@@ -12,7 +12,9 @@ use Rattle.tl_outcomes.specs.Outcomes.{entry_of}
 use Rattle.tl_run.specs.Answers.{answer, is_whole}
 use Rattle.tl_run.specs.Draws.{is_late_draw}
 use Rattle.tl_run.specs.InEntries.{AreEntries, entries_text, entries_status, told_entries, IsInEntries}
+use Rattle.tl_run.specs.Pages.{Gathers}
 use Rattle.tl_run.specs.Writing.{Appends, Begins, Cuts, Writing}
+use Rattle.tl_run.proofs.PageLemmas.{Gathers-more, Cuts-gathered}
 use Rattle.tl_run.proofs.WritingLemmas.{Appends-more, Cuts-second, Writing-whole, Writing-cut}
 
 -- ---- entries one after another
@@ -63,49 +65,64 @@ entries-from P n (suc k) each =
     let (ps, count, are) = entries-from P (n + 1) k each in
     (p ∷ ps, omega (arith, count), (is, are))
 
--- ---- what is written
+-- ---- what is gathered and written
 
--- A head and the entries of the numbers below n were written, and this is their status.
-pub record AreWritten (P : Entries) (head : List ℕ) (n status : ℕ) (sink sink' : SinkState) : Type 0 where
+-- A head and the entries of the numbers below n were put, some bytes of them wait, and this is their status.
+pub record AreGathered (P : Entries) (head : List ℕ) (n status : ℕ) (waiting : List ℕ) (sink sink' : SinkState) : Type 0 where
   pub entries : List Entry
   pub count : length entries ≡ n
   pub each : AreEntries P 0 entries
   pub status_is : status ≡ entries_status entries
-  pub written : Appends (head ++ entries_text entries) sink sink'
+  pub gathered : Gathers [] (head ++ entries_text entries) waiting sink sink'
 
 module _ (P : Entries) (head : List ℕ) where
   -- only the head
-  pub none-written : (sink sink' : SinkState) → Appends head sink sink' → AreWritten P head 0 0 sink sink'
-  none-written sink sink' w = record {
+  pub none-gathered : (waiting : List ℕ) (sink sink' : SinkState) → Gathers [] head waiting sink sink' → AreGathered P head 0 0 waiting sink sink'
+  none-gathered waiting sink sink' g = record {
     entries = [];
     count = refl;
     each = tt;
     status_is = refl;
-    written = subst (λ (l : List ℕ). Appends l sink sink') (sym (append-nil head)) w;
+    gathered = subst (λ (l : List ℕ). Gathers [] l waiting sink sink') (sym (append-nil head)) g;
   }
 
   -- one entry more
-  pub one-written : (n status : ℕ) (entry : Entry) (draw : Drawn) (sink mid sink' : SinkState) → AreWritten P head n status sink mid → P n entry
-      → entry.is_late ≡ is_late_draw draw → Appends entry.text mid sink' → AreWritten P head (n + 1) (if is_late_draw draw then 7 else status) sink sink'
-  one-written n status entry draw sink mid sink' w is told written = record {
+  pub one-gathered : (n status : ℕ) (entry : Entry) (draw : Drawn) (waiting waiting' : List ℕ) (sink mid sink' : SinkState)
+      → AreGathered P head n status waiting sink mid → P n entry → entry.is_late ≡ is_late_draw draw → Gathers waiting entry.text waiting' mid sink'
+      → AreGathered P head (n + 1) (if is_late_draw draw then 7 else status) waiting' sink sink'
+  one-gathered n status entry draw waiting waiting' sink mid sink' w is told more = record {
     entries = w.entries ++ (entry ∷ []);
     count = length-append w.entries (entry ∷ []) ∙ ap (λ (k : ℕ). k + 1) w.count;
     each = AreEntries-append P 0 n w.entries (entry ∷ []) (omega (arith, w.count)) w.each (is, tt);
     status_is = ap (λ (k : ℕ). if is_late_draw draw then 7 else k) w.status_is ∙ status-more w.entries entry draw told;
-    written =
-        subst (λ (l : List ℕ). Appends l sink sink') (text-more head w.entries entry)
-        (Appends-more (head ++ entries_text w.entries) entry.text sink mid sink' w.written written);
+    gathered =
+        subst (λ (l : List ℕ). Gathers [] l waiting' sink sink') (text-more head w.entries entry)
+        (Gathers-more [] (head ++ entries_text w.entries) waiting entry.text waiting' sink mid sink' w.gathered more);
   }
 
   module _ (count : ℕ) where
-    -- all of them
-    pub all-written : (status : ℕ) (sink sink' : SinkState) → AreWritten P head count status sink sink' → Writing (IsInEntries P head count) true sink sink' status
-    all-written status sink sink' w =
-        Writing-whole (IsInEntries P head count) true (head ++ entries_text w.entries) sink sink' status w.written (ap is_whole w.status_is ∙ status-whole w.entries)
+    -- all of them, and what waited was written
+    pub all-written : (status : ℕ) (waiting : List ℕ) (sink mid sink' : SinkState) → AreGathered P head count status waiting sink mid
+        → Appends waiting mid sink' → Writing (IsInEntries P head count) true sink sink' status
+    all-written status waiting sink mid sink' w last =
+        Writing-whole (IsInEntries P head count) true (head ++ entries_text w.entries) sink sink' status
+        (subst (λ (l : List ℕ). Appends l sink sink') (sym w.gathered.in_order)
+        (Appends-more w.gathered.out waiting sink mid sink' w.gathered.written last)) (ap is_whole w.status_is ∙ status-whole w.entries)
         (record { entries = w.entries; count_is = w.count; each = w.each; is = ap (λ (s : ℕ). answer (head ++ entries_text w.entries) s) w.status_is })
 
+    -- the write of what waited failed
+    pub last-cut : (status : ℕ) (waiting : List ℕ) (sink mid sink' : SinkState) → AreGathered P head count status waiting sink mid
+        → Cuts waiting mid sink' → Writing (IsInEntries P head count) true sink sink' 5
+    last-cut status waiting sink mid sink' w cut =
+        Writing-cut (IsInEntries P head count) true (head ++ entries_text w.entries) sink sink'
+        (subst (λ (l : List ℕ). Cuts l sink sink') (sym w.gathered.in_order) (Cuts-second w.gathered.out waiting sink mid sink' w.gathered.written cut)) (
+          told_entries head w.entries,
+          record { entries = w.entries; count_is = w.count; each = w.each; is = refl },
+          ([], append-nil (head ++ entries_text w.entries)),
+        )
+
     module _ (ever : (n : ℕ) → (p : Entry) × P n p) where
-      -- a write of the head failed
+      -- a write failed when the head was put
       pub head-cut : (sink sink' : SinkState) → Cuts head sink sink' → Writing (IsInEntries P head count) true sink sink' 5
       head-cut sink sink' c =
           let (ps, count_is, each) = entries-from P 0 count ever in
@@ -136,12 +153,13 @@ module _ (P : Entries) (head : List ℕ) where
           sizes : (a b : ℕ) → a ≡ n → b ≡ count - (n + 1) → a + suc b ≡ count
           sizes a b e f = omega (arith, e, f, below)
 
-      -- a write of an entry failed
-      pub entry-cut : (n status : ℕ) (entry : Entry) (sink mid sink' : SinkState) → n < count → AreWritten P head n status sink mid → P n entry
-          → Cuts entry.text mid sink' → Writing (IsInEntries P head count) true sink sink' 5
-      entry-cut n status entry sink mid sink' below w is cut =
+      -- a write failed when an entry was put
+      pub entry-cut : (n status : ℕ) (entry : Entry) (waiting : List ℕ) (sink mid sink' : SinkState) → n < count
+          → AreGathered P head n status waiting sink mid → P n entry → Cuts (waiting ++ entry.text) mid sink'
+          → Writing (IsInEntries P head count) true sink sink' 5
+      entry-cut n status entry waiting sink mid sink' below w is cut =
           Writing-cut (IsInEntries P head count) true ((head ++ entries_text w.entries) ++ entry.text) sink sink'
-          (Cuts-second (head ++ entries_text w.entries) entry.text sink mid sink' w.written cut)
+          (Cuts-gathered [] (head ++ entries_text w.entries) waiting entry.text sink mid sink' w.gathered cut)
           (begins n w.entries entry below w.count w.each is)
 
 -- ---- the entry of an outcome

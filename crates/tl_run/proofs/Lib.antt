@@ -1,6 +1,8 @@
 mod ReaderLemmas
 mod ReplyLemmas
 mod WritingLemmas
+mod PageLemmas
+mod PageExamples
 mod RunLemmas
 mod DrawingLemmas
 mod FlipLemmas

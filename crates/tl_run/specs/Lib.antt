@@ -6,6 +6,7 @@ pub mod Refute
 pub mod Replies
 pub mod Reading
 pub mod Writing
+pub mod Pages
 pub mod Runs
 pub mod Statuses
 pub mod Replying

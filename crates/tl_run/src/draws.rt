@@ -1,6 +1,6 @@
 //! Samples drawn and written.
 
-ghost use Rattle.std.specs.Prelude.{◌≡◌, ◌≤◌, ◌+◌, ◌++◌, true, length, take, Some, None, IfOk, OnOk, OnErr, if◌then◌else◌};
+ghost use Rattle.std.specs.Prelude.{◌≡◌, ◌≤◌, ◌++◌, true, length, Some, None, IfOk, OnOk, OnErr, if◌then◌else◌};
 ghost use Rattle.tl_definitions.specs.Accepted.{Accepted};
 ghost use Rattle.tl_extreme.specs.Verdicts.{AreBottomHeights, AreTopHeights};
 ghost use Rattle.tl_height.specs.HeightFunction.{HeightFunction};
@@ -9,94 +9,72 @@ ghost use Rattle.tl_outcomes.specs.declared.draw_job.DrawJob.{DrawJob};
 ghost use Rattle.tl_text.specs.SampleLine.{sample_line};
 ghost use Rattle.tl_run.specs.Draws.{is_late_draw};
 ghost use Rattle.tl_run.specs.InEntries.{IsInEntries};
+ghost use Rattle.tl_run.specs.Pages.{Gathers};
 ghost use Rattle.tl_run.specs.Statuses.{code_of};
-ghost use Rattle.tl_run.specs.Writing.{Appends, Cuts, Writing};
+ghost use Rattle.tl_run.specs.Writing.{Cuts, Writing};
 
+use crate::page::Page;
 use crate::status::Status;
 use std::alloc::{AllocError, Global};
 use std::thread::Threads;
 use tl_chain::Drawn;
 use tl_height::Heights;
-use tl_io::{Gate, Sink, WriteFault, write_all};
+use tl_io::{Gate, Sink, WriteFault};
 use tl_outcomes::{Drawer, Noted, Outcome, draw_apart};
 use tl_text::{SampleJob, sample_head};
 use tl_workers::Worker;
 
-// No more bytes are gathered for one write.
-const PAGE_SIZE: usize = 512;
-
-// Puts bytes behind those that are there, and gives the new end.
-fn put(page: &mut [u8; PAGE_SIZE], end: usize, bytes: &[u8]) -> usize
-    requires { end + length bytes.now ≤ PAGE_SIZE }
-    ensures end { result ≡ end + length bytes.now }
-    ensures put { take result page.new ≡ take end page.old ++ bytes.now }
-{
-    let new_end = end + bytes.len();
-    page[end..new_end].copy_from_slice(bytes);
-    new_end
-}
-
-// Writes two pieces, one behind the other. Where they are short, both go into one write.
-fn write_both<K: Sink>(first: &[u8], second: &[u8], sink: &mut K) -> Result<(), WriteFault>
-    requires { length first.now ≤ PAGE_SIZE }
-    ensures whole { OnOk result (Appends (first.now ++ second.now) (K.state sink.old) (K.state sink.new)) }
-    ensures cut { OnErr result (Cuts (first.now ++ second.now) (K.state sink.old) (K.state sink.new)) }
-{
-    if second.len() <= PAGE_SIZE - first.len() {
-        let mut page = [0u8; PAGE_SIZE];
-        let end = put(&mut page, 0, first);
-        let end = put(&mut page, end, second);
-        return write_all(sink, &page[..end]);
-    }
-    write_all(sink, first)?;
-    write_all(sink, second)
-}
-
-// Writes the head line of a sample and its drawing.
-fn write_drawing<K: Sink>(
-    number: u32,
-    start: u64,
-    letters: &[u8],
-    sink: &mut K,
-) -> Result<(), WriteFault>
-    ensures whole { OnOk result (Appends (sample_line number (Some start) None ++ letters.now)
-        (K.state sink.old) (K.state sink.new)) }
-    ensures cut { OnErr result (Cuts (sample_line number (Some start) None ++ letters.now)
-        (K.state sink.old) (K.state sink.new)) }
-{
-    let mut line = [0u8; 80];
-    let end = sample_head(number, Some(start), None, &mut line);
-    write_both(&line[..end], letters, sink)
-}
-
-// Writes the head line of a sample.
-fn write_head<K: Sink>(
+// Puts the head line of a sample into the page.
+fn put_head<K: Sink>(
     number: u32,
     start: Option<u64>,
     rank: Option<u64>,
+    page: &mut Page,
     sink: &mut K,
 ) -> Result<(), WriteFault>
-    ensures whole { OnOk result (Appends (sample_line number start rank) (K.state sink.old) (K.state sink.new)) }
-    ensures cut { OnErr result (Cuts (sample_line number start rank) (K.state sink.old) (K.state sink.new)) }
+    ensures whole { OnOk result (Gathers page.old (sample_line number start rank) page.new (K.state sink.old) (K.state sink.new)) }
+    ensures cut { OnErr result (Cuts (page.old ++ sample_line number start rank) (K.state sink.old) (K.state sink.new)) }
 {
     let mut line = [0u8; 80];
     let end = sample_head(number, start, rank, &mut line);
-    write_all(sink, &line[..end])
+    page.put(&line[..end], sink)
 }
 
-// Writes what came of the draw of a number: its head line, and its drawing where it has one.
-fn write_outcome<K: Sink>(number: u32, outcome: &Outcome, sink: &mut K) -> Result<(), WriteFault>
-    ensures whole { OnOk result (Appends (entry_of outcome.now.drawn outcome.now.noted number).text
+// Puts the head line of a sample and its drawing into the page.
+fn put_drawing<K: Sink>(
+    number: u32,
+    start: u64,
+    letters: &[u8],
+    page: &mut Page,
+    sink: &mut K,
+) -> Result<(), WriteFault>
+    ensures whole { OnOk result (Gathers page.old (sample_line number (Some start) None ++ letters.now) page.new
         (K.state sink.old) (K.state sink.new)) }
-    ensures cut { OnErr result (Cuts (entry_of outcome.now.drawn outcome.now.noted number).text
+    ensures cut { OnErr result (Cuts (page.old ++ (sample_line number (Some start) None ++ letters.now))
+        (K.state sink.old) (K.state sink.new)) }
+{
+    put_head(number, Some(start), None, page, sink)?;
+    page.put(letters, sink)
+}
+
+// Puts what came of the draw of a number into the page: its head line, and its drawing where it has one.
+fn put_outcome<K: Sink>(
+    number: u32,
+    outcome: &Outcome,
+    page: &mut Page,
+    sink: &mut K,
+) -> Result<(), WriteFault>
+    ensures whole { OnOk result (Gathers page.old (entry_of outcome.now.drawn outcome.now.noted number).text page.new
+        (K.state sink.old) (K.state sink.new)) }
+    ensures cut { OnErr result (Cuts (page.old ++ (entry_of outcome.now.drawn outcome.now.noted number).text)
         (K.state sink.old) (K.state sink.new)) }
 {
     let Drawn::At(start) = outcome.drawn else {
-        return write_head(number, None, None, sink);
+        return put_head(number, None, None, page, sink);
     };
     match &outcome.noted {
-        Noted::Drawing(letters) => write_drawing(number, start, letters, sink),
-        Noted::Rank(rank) => write_head(number, Some(start), Some(*rank), sink),
+        Noted::Drawing(letters) => put_drawing(number, start, letters, page, sink),
+        Noted::Rank(rank) => put_head(number, Some(start), Some(*rank), page, sink),
     }
 }
 
@@ -110,7 +88,7 @@ fn status_with(status: Status, drawn: Drawn) -> Status
     }
 }
 
-// Draws the samples of all numbers below the count, one after the other, and writes each before the next is drawn.
+// Draws the samples of all numbers below the count, one after the other, and writes them in order, gathered to pages.
 // After a failed write none is drawn. It takes no memory.
 fn write_in_turn<'a, K: Sink, G: Gate>(
     count: u32,
@@ -127,7 +105,8 @@ fn write_in_turn<'a, K: Sink, G: Gate>(
     ensures { Writing (IsInEntries (EntriesOf (draw_of blank.entry)) head.now count) true
         (K.state sink.old) (K.state sink.new) (code_of result) }
 {
-    let Ok(()) = write_all(sink, head) else {
+    let mut page = Page::new();
+    let Ok(()) = page.put(head, sink) else {
         return Status::WriteFault;
     };
     let mut status = Status::Answered;
@@ -136,32 +115,39 @@ fn write_in_turn<'a, K: Sink, G: Gate>(
         gate.pass(0, number);
         outcome = drawer.fill(number, outcome);
         gate.posted(0, number);
-        let Ok(()) = write_outcome(number, &outcome, sink) else {
+        let Ok(()) = put_outcome(number, &outcome, &mut page, sink) else {
             return Status::WriteFault;
         };
         status = status_with(status, outcome.drawn);
     }
+    let Ok(()) = page.flush(sink) else {
+        return Status::WriteFault;
+    };
     status
 }
 
-// Writes what came of all draws, in order.
+// Writes what came of all draws, in order, gathered to pages.
 fn write_outcomes<K: Sink>(outcomes: &[Outcome], head: &[u8], sink: &mut K) -> Status
     requires { length outcomes.now ≤ 65536 }
     ensures { (draw : DrawJob) (low : HeightFunction) → AreBottomHeights draw.region low → Accepted draw.region
         → AreOutcomesOf draw outcomes.now
         → Writing (IsInEntries (EntriesOf draw) head.now (length outcomes.now)) true (K.state sink.old) (K.state sink.new) (code_of result) }
 {
-    let Ok(()) = write_all(sink, head) else {
+    let mut page = Page::new();
+    let Ok(()) = page.put(head, sink) else {
         return Status::WriteFault;
     };
     let mut status = Status::Answered;
     for number in 0..outcomes.len() {
         let outcome = &outcomes[number];
-        let Ok(()) = write_outcome(number as u32, outcome, sink) else {
+        let Ok(()) = put_outcome(number as u32, outcome, &mut page, sink) else {
             return Status::WriteFault;
         };
         status = status_with(status, outcome.drawn);
     }
+    let Ok(()) = page.flush(sink) else {
+        return Status::WriteFault;
+    };
     status
 }
 

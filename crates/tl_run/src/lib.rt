@@ -7,6 +7,7 @@ mod decide;
 mod draws;
 mod flips;
 mod generate;
+mod page;
 mod path_text;
 mod readers;
 mod refusals;

@@ -187,6 +187,26 @@ fn a_failed_write_cuts_the_samples(rt: HostRuntime) -> Result<(), AllocError> {
 }
 
 #[test]
+fn small_samples_are_gathered_for_one_write(rt: HostRuntime) -> Result<(), AllocError> {
+    let count = ["--count", "300"];
+    let (status, whole) = sampled(&rt, rt.alloc(), &count, TWO, 8000)?;
+    assert_eq!(rt; status, Status::Answered);
+    assert_eq!(rt; whole.held().len(), 7390);
+    for workers in ["1", "2"] {
+        let words = ["sample", "--count", "300", "--workers", workers];
+        let bytes = Vec::from_slice(rt.alloc(), TWO)?;
+        let mut source = MemSource::new(bytes, 1000, Vec::new(rt.alloc()));
+        let fails = Vec::from_slice(rt.alloc(), &[1])?;
+        let mut sink = MemSink::new(rt.alloc(), 8000, 8000, fails)?;
+        let status = run_quiet(&rt, rt.alloc(), &words, &mut source, &mut sink, &FreeGate);
+        assert_eq!(rt; status, Status::WriteFault, "{workers}");
+        assert!(rt; whole.held().starts_with(sink.held()), "{workers}");
+        assert!(rt; sink.held().len() > 4000, "{workers}");
+    }
+    Ok(())
+}
+
+#[test]
 fn workers_change_no_byte(rt: HostRuntime) -> Result<(), AllocError> {
     let alone: [&str; 4] = ["--count", "9", "--bound", "1"];
     let (status, whole) = sampled(&rt, rt.alloc(), &alone, FOUR, 300)?;

@@ -2,7 +2,7 @@ use Rattle.std.proofs.Common.{◌≡◌}
 use Rattle.tl_extreme.specs.Verdicts.{AreBottomHeights}
 use Rattle.tl_outcomes.specs.Outcomes.{draw_of, EntriesOf}
 use Rattle.tl_run.specs.Statuses.{code_of}
-use Rattle.tl_run.proofs.EntryLemmas.{AreWritten}
+use Rattle.tl_run.proofs.EntryLemmas.{AreGathered}
 use Rattle.tl_run.proofs.draws.write_in_turn.Given as goal
 
 abbrev pub invariant-loop-number : goal.invariant-loop-number
@@ -10,5 +10,5 @@ invariant-loop-number g l = record {
   same : draw_of l.outcome ≡ draw_of l.fn.blank;
   region : l.drawer.sampler.region ≡ l.fn.blank.region.now;
   bottom : AreBottomHeights l.fn.blank.region.now l.drawer.bottom.now;
-  written : AreWritten (EntriesOf (draw_of l.fn.blank)) l.head l.number (code_of l.status) (g.K.Sink.state l.fn.sink) (g.K.Sink.state l.sink);
+  gathered : AreGathered (EntriesOf (draw_of l.fn.blank)) l.head l.number (code_of l.status) l.page (g.K.Sink.state l.fn.sink) (g.K.Sink.state l.sink);
 }
