@@ -155,7 +155,7 @@ impl Band {
     fn sweep<S: Sweeping, B: Bits>(&mut self, stretch: &S, coins: &mut Coins<B>)
         requires course { IsCourseOf (S.region stretch.now) (S.bits stretch.now) (S.course stretch.now) }
         requires from { (S.course stretch.now).from ≤ 2 ^ 30 }
-        requires pieces { ArePiecesOf (S.region stretch.now) (S.course stretch.now).layout coins.old.pieces }
+        requires pieces { ∥ ArePiecesOf (S.region stretch.now) (S.course stretch.now).layout coins.old.pieces ∥₁ }
         requires bits { bit_at (B.word_at coins.old.kept.bits) ≡ S.bits stretch.now }
         requires at { IsBandAt (S.course stretch.now) self.old }
         requires left { self.old.done < steps_of (S.course stretch.now) }
@@ -193,7 +193,7 @@ impl Band {
     ) -> bool
         requires course { IsCourseOf (S.region stretch.now) (S.bits stretch.now) (S.course stretch.now) }
         requires from { (S.course stretch.now).from ≤ 2 ^ 30 }
-        requires pieces { ArePiecesOf (S.region stretch.now) (S.course stretch.now).layout coins.old.pieces }
+        requires pieces { ∥ ArePiecesOf (S.region stretch.now) (S.course stretch.now).layout coins.old.pieces ∥₁ }
         requires bits { bit_at (B.word_at coins.old.kept.bits) ≡ S.bits stretch.now }
         requires at { IsBandAt (S.course stretch.now) self.old }
         ensures at { IsBandAt (S.course stretch.now) self.new }

@@ -1,4 +1,5 @@
 mod Beside
 mod Begun
 mod Same
+mod Stacked
 mod Stored

@@ -1,92 +1,111 @@
--- The rows of bands put together.
-use Rattle.std.proofs.Common.{◌≡◌, ℕ, zero, suc, ◌+◌, ◌-◌, ◌<◌, ◌≤◌, ◌⊎◌, inl, inr, List, [], ◌∷◌, length, get_or, sym, ◌∙◌, ap, subst, arith}
+-- The rows of items put together: each is a band, or the bands of a hand.
+use Rattle.std.proofs.Common.{◌≡◌, ℕ, ◌+◌, ◌/◌, ◌%◌, ◌<◌, ◌≤◌, ◌⊎◌, inl, inr, List, [], ◌∷◌, length, get_or, refl, sym, ◌∙◌, ap, subst, arith}
 use Rattle.std.proofs.lemmas.Bool.{cases_lt}
 use Rattle.std.proofs.lemmas.List.{get_or_default}
+use Rattle.tl_definitions.specs.Lattice.{classes}
+use Rattle.std.specs.Prelude.{◌==◌}
+use Rattle.std.specs.Int.{bit_at}
 use Rattle.tl_layout.specs.declared.layout.Layout.{Layout}
-use Rattle.tl_band.specs.declared.band.Band.{Band}
-use Rattle.tl_crew.specs.Bands.{AreBandsIn}
+use Rattle.tl_packed.specs.declared.strings.Strings.{Strings}
+use Rattle.tl_packed.specs.OfClasses.{of_class}
+use Rattle.tl_row_sweep.specs.Rows.{AreTaken}
+use Rattle.tl_courses.specs.Courses.{Course, after, bits_of, steps_of}
+use Rattle.tl_band.specs.Bands.{AreRowsDone, AreRowsKept}
+use Rattle.tl_crew.specs.Bands.{AreStacked}
+use Rattle.tl_crew.proofs.Stacked.{item-end, item-first, row-in_some}
 
--- the row is one of this band
-abbrev pub IsIn : List Band → Band → ℕ → ℕ → Type 0
-IsIn bands d k row = ((get_or bands k d).upper.own ≤ row) × (row < (get_or bands k d).lower.beside)
+some-item : {T : Type 0} (items : List T) → 0 < length items → T
+some-item [] some = absurd (omega (arith, some))
+some-item (t ∷ items) some = t
 
-module _ (l : Layout) (bands : List Band) (given : AreBandsIn l bands) (d : Band) where
-  -- a row below the first and above the end of band j is in one of the bands up to it
-  in-some : (j : ℕ) → j < length bands → (row : ℕ) → 1 ≤ row → row < (get_or bands j d).lower.beside → (k : ℕ) × (k < j + 1) × IsIn bands d k row
-  in-some zero within row above below = (zero, omega arith, (omega (arith, above, given.first d), below))
-  in-some (suc j) within row above below = go (cases_lt row (get_or bands j d).lower.beside) (in-some j (omega (arith, within)) row above)
-    where
-      go : (row < (get_or bands j d).lower.beside) ⊎ ((get_or bands j d).lower.beside ≤ row)
-          → (row < (get_or bands j d).lower.beside → (k : ℕ) × (k < j + 1) × IsIn bands d k row) → (k : ℕ) × (k < suc j + 1) × IsIn bands d k row
-      go (inl h) earlier = let (k, up_to, is) = earlier h in (k, omega (arith, up_to), is)
-      go (inr h) earlier =
-          let e : j + 1 ≡ suc j = omega arith in
-          let own : (get_or bands (suc j) d).upper.own ≡ (get_or bands j d).lower.beside =
-          subst (λ (n : ℕ). (get_or bands n d).upper.own ≡ (get_or bands j d).lower.beside) e (given.next j d (omega (arith, within))) in
-          (suc j, omega arith, (omega (arith, own, h), below))
+module _ {T : Type 0} (first_of end_of : T → ℕ) (c : Course) (items : List T) where
+  -- The rows of the first j items are those after all classes, and all others are the old ones.
+  pub record AreStored (j : ℕ) (old now : Strings) : Type 0 where
+    pub stored : (k : ℕ) (d : T) (class row slot : ℕ) → k < j → class < classes c.layout.kind → row < c.layout.height
+        → first_of (get_or items k d) ≤ row → row < end_of (get_or items k d)
+        → bits_of c.layout.height now class row slot ≡ after c (steps_of c) class row slot
+    pub others : (class row slot : ℕ) → class < classes c.layout.kind → row < c.layout.height
+        → ((k : ℕ) (d : T) → k < j → first_of (get_or items k d) ≤ row → row < end_of (get_or items k d) → ⊥)
+        → bits_of c.layout.height now class row slot ≡ bits_of c.layout.height old class row slot
 
-  -- each row but the first, the last and the last but one is in some band
-  pub row-in_some : (row : ℕ) → 1 ≤ row → row + 2 < l.height → (k : ℕ) × (k < length bands) × IsIn bands d k row
-  row-in_some row above below =
-      let last = given.last d in
-      let (k, up_to, is) = in-some (length bands - 1) (omega (arith, given.some)) row above (omega (arith, last, below)) in
-      (k, omega (arith, up_to, given.some), is)
+  pub stored-none : (old : Strings) → AreStored 0 old old
+  stored-none old = record {
+    stored = λ k d class row slot before. absurd (omega (arith, before));
+    others = λ class row slot within inside none. refl;
+  }
 
-  -- the bands stand between the first row and the last but one
-  pub band-below : (j : ℕ) → j < length bands → 1 ≤ (get_or bands j d).upper.own
-  band-below j within = let one = given.each j d within in omega (arith, one.above_first)
+  module _ (j : ℕ) (r : T) (is : r ≡ get_or items j r) (within : j < length items) (old now new : Strings)
+      (own : AreRowsDone c (first_of r) (end_of r) new) (outside : AreRowsKept c.layout (first_of r) (end_of r) now new) (before : AreStored j old now) where
+    item-same : (k : ℕ) (d : T) → k ≡ j → get_or items k d ≡ r
+    item-same k d e = ap (λ (n : ℕ). get_or items n d) e ∙ (get_or_default items j d r within ∙ sym is)
 
-  -- the ends of the bands rise
-  ends-rise : (j k : ℕ) → j < length bands → k ≤ j → (get_or bands k d).lower.beside ≤ (get_or bands j d).lower.beside
-  ends-rise zero k within up_to = let e : zero ≡ k = omega (arith, up_to) in subst (λ (n : ℕ). (get_or bands n d).lower.beside ≤ (get_or bands zero d).lower.beside) e (omega arith)
-  ends-rise (suc j) k within up_to = go (cases_lt k (suc j)) (λ before. ends-rise j k (omega (arith, within)) (omega (arith, before)))
-    where
-      go : (k < suc j) ⊎ (suc j ≤ k) → (k < suc j → (get_or bands k d).lower.beside ≤ (get_or bands j d).lower.beside) → (get_or bands k d).lower.beside ≤ (get_or bands (suc j) d).lower.beside
-      go (inr h) earlier =
-          let e : suc j ≡ k = omega (arith, up_to, h) in subst (λ (n : ℕ). (get_or bands n d).lower.beside ≤ (get_or bands (suc j) d).lower.beside) e (omega arith)
-      go (inl h) earlier =
-          let e : j + 1 ≡ suc j = omega arith in
-          let own : (get_or bands (suc j) d).upper.own ≡ (get_or bands j d).lower.beside =
-          subst (λ (n : ℕ). (get_or bands n d).upper.own ≡ (get_or bands j d).lower.beside) e (given.next j d (omega (arith, within))) in
-          let one = given.each (suc j) d within in
-          omega (arith, earlier h, own, one.some, one.below_last)
+    split : (row : ℕ) (P : Type 0) → (first_of r ≤ row → row < end_of r → P) → ((row < first_of r) ⊎ (end_of r ≤ row) → P) → P
+    split row P inside beside = go (cases_lt row (first_of r)) (cases_lt row (end_of r))
+      where
+        go : (row < first_of r) ⊎ (first_of r ≤ row) → (row < end_of r) ⊎ (end_of r ≤ row) → P
+        go (inl h) m = beside (inl h)
+        go (inr n) (inr h) = beside (inr h)
+        go (inr n) (inl h) = inside n h
 
-  pub band-end : (k : ℕ) → k < length bands → (get_or bands k d).lower.beside + 2 ≤ l.height
-  band-end k within = omega (arith, ends-rise (length bands - 1) k (omega (arith, within)) (omega (arith, within)), given.last d)
+    pub stored-next : AreStored (j + 1) old new
+    stored-next = record { stored = stored; others = others }
+      where
+        stored : (k : ℕ) (d : T) (class row slot : ℕ) → k < j + 1 → class < classes c.layout.kind → row < c.layout.height
+            → first_of (get_or items k d) ≤ row → row < end_of (get_or items k d)
+            → bits_of c.layout.height new class row slot ≡ after c (steps_of c) class row slot
+        stored k d class row slot up_to inside low above below =
+            split row (bits_of c.layout.height new class row slot ≡ after c (steps_of c) class row slot)
+            (λ above_r below_r. own class row slot inside above_r below_r)
+            (λ out. go out (cases_lt k j))
+          where
+            not-own : k ≡ j → (row < first_of r) ⊎ (end_of r ≤ row) → ⊥
+            not-own e (inl h) = omega (arith, ap first_of (item-same k d e), above, h)
+            not-own e (inr h) = omega (arith, ap end_of (item-same k d e), below, h)
 
--- what holds of the rows of band j, and of those of earlier bands outside it, holds of the rows of all up to it
-pub stored-more : (bands : List Band) (j : ℕ) (r : Band) → r ≡ get_or bands j r → j < length bands → (k : ℕ) (d : Band) → k < j + 1 → (row : ℕ)
-    → (get_or bands k d).upper.own ≤ row → row < (get_or bands k d).lower.beside
-    → (P : Type 0) → (r.upper.own ≤ row → row < r.lower.beside → P) → (k < j → (row < r.upper.own) ⊎ (r.lower.beside ≤ row) → P) → P
-stored-more bands j r is within k d up_to row above below P own before = go (cases_lt row r.upper.own) (cases_lt row r.lower.beside)
-  where
-    inside : (a b : Band) → a ≡ b → a.upper.own ≤ row → row < a.lower.beside → (row < b.upper.own) ⊎ (b.lower.beside ≤ row) → ⊥
-    inside a b same above below (inl h) = omega (arith, ap (λ (x : Band). x.upper.own) same, above, h)
-    inside a b same above below (inr h) = omega (arith, ap (λ (x : Band). x.lower.beside) same, below, h)
+            go : (row < first_of r) ⊎ (end_of r ≤ row) → (k < j) ⊎ (j ≤ k) → bits_of c.layout.height new class row slot ≡ after c (steps_of c) class row slot
+            go out (inl h) = outside class row slot inside low out ∙ before.stored k d class row slot h inside low above below
+            go out (inr h) = absurd (not-own (omega (arith, h, up_to)) out)
 
-    earlier : (row < r.upper.own) ⊎ (r.lower.beside ≤ row) → (k < j) ⊎ (j ≤ k) → P
-    earlier out (inl h) = before h out
-    earlier out (inr h) =
-        let e : k ≡ j = omega (arith, h, up_to) in
-        let same : get_or bands k d ≡ r = ap (λ (n : ℕ). get_or bands n d) e ∙ (get_or_default bands j d r within ∙ sym is) in
-        absurd (inside (get_or bands k d) r same above below out)
+        others : (class row slot : ℕ) → class < classes c.layout.kind → row < c.layout.height
+            → ((k : ℕ) (d : T) → k < j + 1 → first_of (get_or items k d) ≤ row → row < end_of (get_or items k d) → ⊥)
+            → bits_of c.layout.height new class row slot ≡ bits_of c.layout.height old class row slot
+        others class row slot inside low none =
+            split row (bits_of c.layout.height new class row slot ≡ bits_of c.layout.height old class row slot)
+            (λ above below.
+            absurd (none j r (omega arith) (subst (λ (t : T). first_of t ≤ row) is above) (subst (λ (t : T). row < end_of t) is below)))
+            (λ out. outside class row slot inside low out ∙ before.others class row slot inside low (λ k d earlier. none k d (omega (arith, earlier))))
 
-    go : (row < r.upper.own) ⊎ (r.upper.own ≤ row) → (row < r.lower.beside) ⊎ (r.lower.beside ≤ row) → P
-    go (inl h) m = earlier (inl h) (cases_lt k j)
-    go (inr n) (inr h) = earlier (inr h) (cases_lt k j)
-    go (inr n) (inl h) = own n h
+  module _ (first end : ℕ) (stacked : AreStacked first_of end_of first end items) (old now : Strings) (all : AreStored (length items) old now) where
+    pub stored-own : end ≤ c.layout.height → AreRowsDone c first end now
+    stored-own top class row slot within above below =
+        let d = some-item items stacked.some in
+        let (k, inside, is) = row-in_some first_of end_of first end items stacked d row above below in
+        all.stored k d class row slot inside within (omega (arith, below, top)) is.0 is.1
 
-pub some-band : (bands : List Band) → 0 < length bands → Band
-some-band [] some = absurd (omega (arith, some))
-some-band (b ∷ bands) some = b
+    pub stored-outside : AreRowsKept c.layout first end old now
+    stored-outside class row slot within low out = all.others class row slot within low none
+      where
+        go : (row < first) ⊎ (end ≤ row) → (k : ℕ) (d : T) → k < length items → first_of (get_or items k d) ≤ row → row < end_of (get_or items k d) → ⊥
+        go (inl h) k d inside above below = omega (arith, item-first first_of end_of first end items stacked d k inside, above, h)
+        go (inr h) k d inside above below = omega (arith, item-end first_of end_of first end items stacked d k inside, below, h)
 
--- all rows, by those in a band and the others
-pub all-rows : (l : Layout) (bands : List Band) (given : AreBandsIn l bands) (d : Band) (row : ℕ) → row < l.height → (P : Type 0)
-    → ((k : ℕ) → k < length bands → (get_or bands k d).upper.own ≤ row → row < (get_or bands k d).lower.beside → P)
-    → ((row ≡ 0) ⊎ (l.height ≤ row + 2) → ((k : ℕ) (e : Band) → k < length bands → (get_or bands k e).upper.own ≤ row → row < (get_or bands k e).lower.beside → ⊥) → P) → P
-all-rows l bands given d row inside P some none = go (cases_lt 0 row) (cases_lt (row + 2) l.height)
-  where
-    go : (0 < row) ⊎ (row ≤ 0) → (row + 2 < l.height) ⊎ (l.height ≤ row + 2) → P
-    go (inl h) (inl m) = let (k, within, is) = row-in_some l bands given d row h m in some k within is.0 is.1
-    go (inl h) (inr m) = none (inr m) (λ k e within above below. omega (arith, band-end l bands given e k within, below, m))
-    go (inr h) m = none (inl (omega (arith, h))) (λ k e within above below. omega (arith, band-below l bands given e k within, above, h))
+        none : (k : ℕ) (d : T) → k < length items → first_of (get_or items k d) ≤ row → row < end_of (get_or items k d) → ⊥
+        none k d inside = go out k d inside
+
+-- where nothing is put together yet, and all rows are those of other strings
+pub stored-copied : {T : Type 0} (first_of end_of : T → ℕ) (c : Course) (items : List T) (old now : Strings)
+    → ((class row slot : ℕ) → class < classes c.layout.kind → row < c.layout.height → bits_of c.layout.height now class row slot ≡ bits_of c.layout.height old class row slot)
+    → AreStored first_of end_of c items 0 old now
+stored-copied first_of end_of c items old now same = record {
+  stored = λ k d class row slot before. absurd (omega (arith, before));
+  others = λ class row slot within inside none. same class row slot within inside;
+}
+
+pub taken-bits : (l m : Layout) → m ≡ l → (start from : Strings) → from ≡ start → (new : Strings)
+    → ((class : ℕ) → class < classes m.kind → AreTaken m.height 0 m.height (of_class from class) (of_class new class))
+    → (class row slot : ℕ) → class < classes l.kind → row < l.height → bits_of l.height new class row slot ≡ bits_of l.height start class row slot
+taken-bits l m e start from f new taken class row slot within inside =
+    let same : (class : ℕ) → class < classes l.kind → AreTaken l.height 0 l.height (of_class start class) (of_class new class) =
+    subst (λ (s : Strings). (class : ℕ) → class < classes l.kind → AreTaken l.height 0 l.height (of_class s class) (of_class new class)) f
+    (subst (λ (k : Layout). (class : ℕ) → class < classes k.kind → AreTaken k.height 0 k.height (of_class from class) (of_class new class)) e taken) in
+    ap (λ (word : ℕ). bit_at word (slot % 64) == 1) (same class within (slot / 64) row (omega arith) inside)

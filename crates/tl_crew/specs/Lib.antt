@@ -1,3 +1,2 @@
 pub mod Bands
-pub mod Borders
 pub mod Hands

@@ -1,6 +1,6 @@
 //! A hand takes turns over its bands.
 
-ghost use Rattle.std.specs.Prelude.{◌≡◌, ◌≤◌, ◌^◌, All, IsTrue, length};
+ghost use Rattle.std.specs.Prelude.{◌≡◌, ◌≤◌, ◌^◌, All, IsTrue};
 ghost use Rattle.tl_bits.specs.Bits.{bit_at};
 ghost use Rattle.tl_layout.specs.Coins.{ArePiecesOf};
 ghost use Rattle.tl_courses.specs.Courses.{IsCourseOf, steps_of};
@@ -25,7 +25,7 @@ pub struct Watch<'a, G: Gate> {
 }
 
 // A turn of each band. Tells whether one has swept a class.
-fn round<R: Wait, S: Sweeping, B: Bits, G: Gate>(
+pub(crate) fn round<R: Wait, S: Sweeping, B: Bits, G: Gate>(
     rt: &R,
     stretch: &S,
     coins: &mut Coins<B>,
@@ -34,7 +34,7 @@ fn round<R: Wait, S: Sweeping, B: Bits, G: Gate>(
 ) -> bool
     requires course { IsCourseOf (S.region stretch.now) (S.bits stretch.now) (S.course stretch.now) }
     requires from { (S.course stretch.now).from ≤ 2 ^ 30 }
-    requires pieces { ArePiecesOf (S.region stretch.now) (S.course stretch.now).layout coins.old.pieces }
+    requires pieces { ∥ ArePiecesOf (S.region stretch.now) (S.course stretch.now).layout coins.old.pieces ∥₁ }
     requires bits { bit_at (B.word_at coins.old.kept.bits) ≡ S.bits stretch.now }
     requires at { All (IsBandAt (S.course stretch.now)) bands.old }
     ensures at { All (IsBandAt (S.course stretch.now)) bands.new }
@@ -54,7 +54,7 @@ fn round<R: Wait, S: Sweeping, B: Bits, G: Gate>(
 }
 
 // Whether all bands have swept all classes.
-fn are_done<S: Sweeping>(stretch: &S, bands: &[Band]) -> bool
+pub(crate) fn are_done<S: Sweeping>(stretch: &S, bands: &[Band]) -> bool
     requires { (S.course stretch.now).from ≤ 2 ^ 30 }
     ensures { IsTrue result → All (λ band. band.done ≡ steps_of (S.course stretch.now)) bands.now }
 {
@@ -72,7 +72,7 @@ pub fn hand<R: Wait, S: Sweeping, B: Bits, G: Gate>(
 )
     requires course { IsCourseOf (S.region stretch.now) (S.bits stretch.now) (S.course stretch.now) }
     requires from { (S.course stretch.now).from ≤ 2 ^ 30 }
-    requires pieces { ArePiecesOf (S.region stretch.now) (S.course stretch.now).layout coins.old.pieces }
+    requires pieces { ∥ ArePiecesOf (S.region stretch.now) (S.course stretch.now).layout coins.old.pieces ∥₁ }
     requires bits { bit_at (B.word_at coins.old.kept.bits) ≡ S.bits stretch.now }
     requires at { All (IsBandAt (S.course stretch.now)) bands.old }
     ensures at { All (IsBandAt (S.course stretch.now)) bands.new }
@@ -91,35 +91,6 @@ pub fn hand<R: Wait, S: Sweeping, B: Bits, G: Gate>(
         } else {
             idle += 1;
         }
-    }
-    unreachable!()
-}
-
-/// Takes turns over these bands until all classes are swept.
-pub fn finish<R: Wait, S: Sweeping, B: Bits, G: Gate>(
-    rt: &R,
-    stretch: &S,
-    coins: &mut Coins<B>,
-    bands: &mut [Band],
-    watch: &Watch<'_, G>,
-)
-    requires course { IsCourseOf (S.region stretch.now) (S.bits stretch.now) (S.course stretch.now) }
-    requires from { (S.course stretch.now).from ≤ 2 ^ 30 }
-    requires pieces { ArePiecesOf (S.region stretch.now) (S.course stretch.now).layout coins.old.pieces }
-    requires bits { bit_at (B.word_at coins.old.kept.bits) ≡ S.bits stretch.now }
-    requires at { All (IsBandAt (S.course stretch.now)) bands.old }
-    ensures at { All (IsBandAt (S.course stretch.now)) bands.new }
-    ensures done { All (λ band. band.done ≡ steps_of (S.course stretch.now)) bands.new }
-    ensures rows { AreSameBands bands.old bands.new }
-    ensures words { B.words coins.new.kept.bits ≡ B.words coins.old.kept.bits }
-    ensures function { B.word_at coins.new.kept.bits ≡ B.word_at coins.old.kept.bits }
-    ensures pieces { coins.new.pieces ≡ coins.old.pieces }
-{
-    for turn in rt.forever() {
-        if are_done(stretch, bands) {
-            return;
-        }
-        round(rt, stretch, coins, bands, watch);
     }
     unreachable!()
 }

@@ -3,8 +3,10 @@
 
 mod apart;
 mod hands;
+mod share;
 mod stretches;
 
-pub use apart::{Hand, sweep_apart};
-pub use hands::{Watch, finish, hand};
-pub use stretches::{begin_all, store_all};
+pub use apart::{Hand, finish, sweep_apart};
+pub use hands::{Watch, hand};
+pub use share::Share;
+pub use stretches::sweep_by_hands;

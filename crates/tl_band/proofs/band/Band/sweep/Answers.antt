@@ -1,4 +1,6 @@
 use Rattle.std.proofs.Common.{◌≡◌, ℕ, ◌+◌, ◌≤◌, suc, Bool, ap, sym, ◌∙◌, subst, arith}
+use Rattle.std.proofs.Math.Logic.{∥∥₁_elim}
+use Rattle.std.proofs.Math.Bool.{Bool-set}
 use Rattle.tl_bits.specs.Bits.{bit_at}
 use Rattle.tl_layout.specs.declared.layout.Layout.{Layout}
 use Rattle.tl_layout.specs.declared.piece.Pieces.{Pieces}
@@ -45,10 +47,10 @@ returns-clause-at g c =
     let time : laid.laid ≡ time_at l.kind course.from p =
     c.lay_out.ensures.laid ∙ (c.time_at.ensures.time ∙ ((λ i. time_at (same i).kind (c.from.ensures i) p))) in
     let word_bits : bit_at (g.B.Bits.word_at laid.kept.bits) ≡ bits = ap (λ f. bit_at f) c.lay_out.ensures.function ∙ c.requires.bits in
-    let pieces : ArePiecesOf R l laid.pieces = subst (λ (w : Pieces). ArePiecesOf R l w) (sym c.lay_out.ensures.pieces) c.requires.pieces in
+    let pieces : ∥ ArePiecesOf R l laid.pieces ∥₁ = subst (λ (w : Pieces). ∥ ArePiecesOf R l w ∥₁) (sym c.lay_out.ensures.pieces) c.requires.pieces in
     let some : 1 ≤ laid.laid = omega (arith, c.lay_out.ensures.laid, c.time_at.ensures.first) in
     let coins : HasCoins R l.height l.first (bits (time_at l.kind course.from p)) laid.words.items =
-    subst (λ (f : ℕ → Bool). HasCoins R l.height l.first f laid.words.items) (λ i. word_bits i (time i)) (laid.laid_out R l pieces some) in
+    subst (λ (f : ℕ → Bool). HasCoins R l.height l.first f laid.words.items) (λ i. word_bits i (time i)) (λ i v at. ∥∥₁_elim pieces (Bool-set _ _) (λ are. laid.laid_out R l are some i v at)) in
     let strings = c.sweep_rows.new.both in
     let steps = steps-same l l' course.slots c.slots.result.now k c.class_at-class.result old.upper.own old.lower.beside laid.words.items c.deref.result.now old.strings strings
     same c.slots.ensures class c.deref.ensures.value
