@@ -14,7 +14,7 @@ use Rattle.tl_band.specs.Bands.{AreRowsDone, AreRowsKept}
 use Rattle.tl_crew.specs.Bands.{AreStacked}
 use Rattle.tl_crew.proofs.Stacked.{item-end, item-first, row-in_some}
 
-some-item : {T : Type 0} (items : List T) → 0 < length items → T
+pub some-item : {T : Type 0} (items : List T) → 0 < length items → T
 some-item [] some = absurd (omega (arith, some))
 some-item (t ∷ items) some = t
 
