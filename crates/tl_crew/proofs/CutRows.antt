@@ -1,8 +1,9 @@
 -- The rows of words of the bands of a cut.
-use Rattle.std.proofs.Common.{◌≡◌, ℕ, ◌+◌, ◌-◌, ◌<◌, ◌≤◌, ◌⊎◌, inl, inr, List, [], ◌∷◌, ◌++◌, length, get_or, sym, ◌∙◌, ap, subst, arith}
+use Rattle.std.proofs.Common.{◌≡◌, ℕ, ◌+◌, ◌-◌, ◌<◌, ◌≤◌, ◌⊎◌, inl, inr, List, [], ◌∷◌, ◌++◌, length, get_or, sym, ◌∙◌, ap, subst, arith, ◌/◌, Bool, true, false, cond, nat_lt}
 use Rattle.std.proofs.Math.ListN.{get_or-append}
-use Rattle.std.proofs.lemmas.Bool.{cases_lt}
-use Rattle.std.proofs.lemmas.List.{get_or_default, get_or_past, get_or_push, length_push}
+use Rattle.std.proofs.Math.Seq.{get_or-append_right}
+use Rattle.std.proofs.lemmas.Bool.{cases_lt, false_from_ne_true, lt-ltb, ltb-true}
+use Rattle.std.proofs.lemmas.List.{get_or_default, get_or_past, get_or_push, length-append, length_push}
 use Rattle.std.proofs.lemmas.Option.{get_or_from_slice_get}
 use Rattle.tl_definitions.specs.Region.{Region}
 use Rattle.tl_layout.specs.declared.layout.Layout.{Layout}
@@ -12,7 +13,7 @@ use Rattle.tl_bands.proofs.Bands.{below_rows, few_bands}
 use Rattle.tl_band.specs.declared.band.Band.{Band}
 use Rattle.tl_band.specs.Bands.{IsOfRows}
 use Rattle.tl_crew.specs.Bands.{AreBandsIn}
-use Rattle.tl_crew.specs.Cuts.{AreBandsOf, IsBandOf, first_row}
+use Rattle.tl_crew.specs.Cuts.{AreBandsOf, IsBandOf, bands_by_hand, first_row}
 
 first_row-all : (cut : Cut) → first_row cut (length cut.firsts) ≡ cut.rows + 1
 first_row-all cut = ap (λ (n : ℕ). n + 1) (get_or_past cut.firsts (length cut.firsts) cut.rows (omega arith))
@@ -104,3 +105,33 @@ bands-pushed l cut from j old new b pushed count are is = subst (λ (bands : Lis
             let at : length old ≡ k = omega (arith, h, inside, long) in
             let e : j ≡ from + k = omega (arith, count, at) in
             subst (λ (x : Band). IsBandOf l cut (from + k) x) (sym (get_or_push old b d k at)) (subst (λ (n : ℕ). IsBandOf l cut n b) e is)
+
+-- bands after others
+pub bands-joined : (l : Layout) (cut : Cut) (from middle : ℕ) (above below : List Band) → from + length above ≡ middle → AreBandsOf l cut from above
+    → AreBandsOf l cut middle below → AreBandsOf l cut from (above ++ below)
+bands-joined l cut from middle above below count are also k d inside = go (cases_lt k (length above))
+  where
+    go : (k < length above) ⊎ (length above ≤ k) → IsBandOf l cut (from + k) (get_or (above ++ below) k d)
+    go (inl h) = subst (λ (x : Band). IsBandOf l cut (from + k) x) (sym (get_or-append above below d k h)) (are k d h)
+    go (inr h) =
+        let long : length (above ++ below) ≡ length above + length below = length-append above below in
+        let e : middle + (k - length above) ≡ from + k = omega (arith, count, h) in
+        subst (λ (x : Band). IsBandOf l cut (from + k) x) (sym (get_or-append_right above below k d h))
+        (subst (λ (n : ℕ). IsBandOf l cut n (get_or below (k - length above) d)) e (also (k - length above) d (omega (arith, h, inside, long))))
+
+-- ---- so many bands of each hand
+
+pub halves-one : (bands count first : ℕ) → count ≡ bands → count ≤ count - count / 2 → 0 + first ≡ count - count / 2 → first ∷ [] ≡ bands_by_hand bands
+halves-one bands count first e half has =
+    let all : first ≡ bands = omega (arith, e, half, has) in
+    let few : nat_lt 1 bands ≡ false = false_from_ne_true (nat_lt 1 bands) (λ t. let more = ltb-true 1 bands t in omega (arith, more, e, half)) in
+    ap (λ (n : ℕ). n ∷ []) all ∙ sym (ap (λ (b : Bool). cond b ((bands - bands / 2) ∷ (bands / 2) ∷ []) (bands ∷ [])) few)
+
+pub halves-two : (bands count first second : ℕ) → count ≡ bands → count - count / 2 < count → 0 + first ≡ count - count / 2 → count - count / 2 + second ≡ count
+    → first ∷ second ∷ [] ≡ bands_by_hand bands
+halves-two bands count first second e half has rest =
+    let upper : first ≡ bands - bands / 2 = omega (arith, e, has) in
+    let lower : second ≡ bands / 2 = omega (arith, e, half, rest) in
+    let more : nat_lt 1 bands ≡ true = lt-ltb 1 bands (omega (arith, e, half)) in
+    ap (λ (n : ℕ). n ∷ second ∷ []) upper
+    ∙ (ap (λ (n : ℕ). (bands - bands / 2) ∷ n ∷ []) lower ∙ sym (ap (λ (b : Bool). cond b ((bands - bands / 2) ∷ (bands / 2) ∷ []) (bands ∷ [])) more))

@@ -1,6 +1,7 @@
 -- One hand, or two, and their bands.
-use Rattle.std.proofs.Common.{◌≡◌, ℕ, zero, suc, ◌+◌, ◌-◌, ◌<◌, List, [], ◌∷◌, ◌++◌, length, get_or, refl, sym, ◌∙◌, ap, subst, arith}
+use Rattle.std.proofs.Common.{◌≡◌, ℕ, zero, suc, ◌+◌, ◌-◌, ◌<◌, List, [], ◌∷◌, ◌++◌, length, get_or, refl, sym, ◌∙◌, ap, subst, arith, append-nil, map}
 use Rattle.std.specs.Prelude.{All}
+use Rattle.std.specs.List.{flat_map}
 use Rattle.tl_layout.specs.declared.layout.Layout.{Layout}
 use Rattle.tl_crew.specs.Bands.{AreSharesIn, AreStacked, IsShareIn}
 use Rattle.tl_crew.specs.declared.share.Share.{Share}
@@ -81,6 +82,12 @@ module _ {T : Type 0} (none one : List T) (h : T) (empty : none ≡ []) (first :
   pub one-length : length one ≡ 1
   one-length = ap length (sym one-is)
 
+  pub one-map : (f : T → ℕ) → map f one ≡ f h ∷ []
+  one-map f = ap (λ (xs : List T). map f xs) (sym one-is)
+
+  pub one-joined : {A : Type 0} (f : T → List A) → flat_map f one ≡ f h
+  one-joined f = ap (λ (xs : List T). flat_map f xs) (sym one-is) ∙ append-nil (f h)
+
   pub one-all : (P : T → Type 0) → P h → All P one
   one-all P p = subst (λ (xs : List T). All P xs) one-is (All-one P h p)
 
@@ -93,6 +100,12 @@ module _ {T : Type 0} (none one : List T) (h : T) (empty : none ≡ []) (first :
 
     pub two-length : length two ≡ 2
     two-length = ap length (sym two-is)
+
+    pub two-map : (f : T → ℕ) → map f two ≡ f h ∷ f k ∷ []
+    two-map f = ap (λ (xs : List T). map f xs) (sym two-is)
+
+    pub two-joined : {A : Type 0} (f : T → List A) → flat_map f two ≡ f h ++ f k
+    two-joined {A} f = ap (λ (xs : List T). flat_map f xs) (sym two-is) ∙ ap (λ (ys : List A). f h ++ ys) (append-nil (f k))
 
     pub two-all : (P : T → Type 0) → P h → P k → All P two
     two-all P p q = subst (λ (xs : List T). All P xs) two-is (All-two P h k p q)

@@ -22,11 +22,12 @@ pub struct Hand<B: Bits> {
 }
 
 // Takes turns over the bands of one hand.
-fn work<R: Wait, S: Sweeping, B: Bits, G: Gate>(
+fn work<R: Wait, S: Sweeping, B: Bits>(
     rt: &R,
     stretch: &S,
     this: &mut Hand<B>,
-    watch: &Watch<'_, G>,
+    gate: &(dyn Gate + Sync),
+    watch: Watch,
 )
     requires course { IsCourseOf (S.region stretch.now) (S.bits stretch.now) (S.course stretch.now) }
     requires from { (S.course stretch.now).from ≤ 2 ^ 30 }
@@ -39,15 +40,16 @@ fn work<R: Wait, S: Sweeping, B: Bits, G: Gate>(
     ensures first { this.new.share.first ≡ this.old.share.first }
     ensures end { this.new.share.end ≡ this.old.share.end }
 {
-    hand(rt, stretch, &mut this.coins, &mut this.share.bands, watch);
+    hand(rt, stretch, &mut this.coins, &mut this.share.bands, gate, watch);
 }
 
 // One turn of each band of one hand.
-fn pass<R: Wait, S: Sweeping, B: Bits, G: Gate>(
+fn pass<R: Wait, S: Sweeping, B: Bits>(
     rt: &R,
     stretch: &S,
     this: &mut Hand<B>,
-    watch: &Watch<'_, G>,
+    gate: &(dyn Gate + Sync),
+    watch: Watch,
 )
     requires course { IsCourseOf (S.region stretch.now) (S.bits stretch.now) (S.course stretch.now) }
     requires from { (S.course stretch.now).from ≤ 2 ^ 30 }
@@ -60,7 +62,7 @@ fn pass<R: Wait, S: Sweeping, B: Bits, G: Gate>(
     ensures first { this.new.share.first ≡ this.old.share.first }
     ensures end { this.new.share.end ≡ this.old.share.end }
 {
-    round(rt, stretch, &mut this.coins, &mut this.share.bands, watch);
+    round(rt, stretch, &mut this.coins, &mut this.share.bands, gate, watch);
 }
 
 /// Has all hands sweep beside each other, each on a thread of its own where one can be had. A hand ends when its bands are
@@ -69,8 +71,7 @@ pub fn sweep_apart<
     R: Threads + Wait + Sync,
     S: Sweeping + Sync,
     B: Bits + Send + Drop,
-    G: Gate + Sync,
->(rt: &R, stretch: &S, hands: &mut [Hand<B>], gate: &G, worker: u32, sample: u32)
+>(rt: &R, stretch: &S, hands: &mut [Hand<B>], gate: &(dyn Gate + Sync), worker: u32, sample: u32)
     requires course { IsCourseOf (S.region stretch.now) (S.bits stretch.now) (S.course stretch.now) }
     requires from { (S.course stretch.now).from ≤ 2 ^ 30 }
     requires count { length hands.old ≤ 64 }
@@ -100,12 +101,11 @@ pub fn sweep_apart<
                 × (this.new.share.end ≡ this.old.share.end) }
         {
             let watch = Watch {
-                gate,
                 worker,
                 hand: index as u32,
                 sample,
             };
-            work(rt, stretch, this, &watch)
+            work(rt, stretch, this, gate, watch)
         },
     );
 }
@@ -136,13 +136,12 @@ fn pass_all<R: Wait, S: Sweeping, B: Bits>(rt: &R, stretch: &S, hands: &mut [Han
     ensures count { length hands.new ≡ length hands.old }
 {
     let watch = Watch {
-        gate: &FreeGate,
         worker: 0,
         hand: 0,
         sample: 0,
     };
     for j in 0..hands.len() {
-        pass(rt, stretch, &mut hands[j], &watch);
+        pass(rt, stretch, &mut hands[j], &FreeGate, watch);
     }
 }
 

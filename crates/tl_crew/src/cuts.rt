@@ -1,12 +1,13 @@
 //! Hands for a cut of a region's rows.
 
-ghost use Rattle.std.specs.Prelude.{◌≡◌, ◌+◌, ◌<◌, ◌≤◌, ◌^◌, All, IfOk, length};
+ghost use Rattle.std.specs.Prelude.{◌≡◌, ◌+◌, ◌<◌, ◌≤◌, ◌^◌, All, IfOk, length, map};
+ghost use Rattle.std.specs.List.{flat_map};
 ghost use Rattle.tl_definitions.specs.Region.{inner_corners};
 ghost use Rattle.tl_bits.specs.Bits.{bit_at, words_for};
 ghost use Rattle.tl_layout.specs.Layouts.{IsLayoutOf};
 ghost use Rattle.tl_bands.specs.Cuts.{IsCut};
 ghost use Rattle.tl_crew.specs.Bands.{AreSharesIn, IsShareIn};
-ghost use Rattle.tl_crew.specs.Cuts.{AreBandsOf, IsBandOf, first_row};
+ghost use Rattle.tl_crew.specs.Cuts.{AreBandsOf, IsBandOf, bands_by_hand, first_row};
 ghost use Rattle.tl_crew.specs.Hands.{AreCoinsOf};
 
 use crate::apart::Hand;
@@ -78,6 +79,8 @@ fn share_of(
     ensures share { IfOk result (IsShareIn layout.now) }
     ensures first { IfOk result (λ share. share.first ≡ first_row cut.now from) }
     ensures end { IfOk result (λ share. share.end ≡ first_row cut.now to) }
+    ensures count { IfOk result (λ share. from + length share.bands.items ≡ to) }
+    ensures bands { IfOk result (λ share. AreBandsOf layout.now cut.now from share.bands.items) }
     ensures is_cut { IsCut cut.now.rows cut.now.firsts }
 {
     let first = row_at(layout, cut, from);
@@ -106,10 +109,12 @@ fn hand_of<B: Bits + Drop>(
     requires within { to ≤ length cut.now.firsts }
     requires few { words ≤ 2 ^ 15 }
     requires enough { words ≡ words_for (length (inner_corners region.now)) }
-    requires count { B.words bits ≡ words }
+    requires of_bits { B.words bits ≡ words }
     ensures share { IfOk result (λ hand. IsShareIn layout.now hand.share) }
     ensures first { IfOk result (λ hand. hand.share.first ≡ first_row cut.now from) }
     ensures end { IfOk result (λ hand. hand.share.end ≡ first_row cut.now to) }
+    ensures count { IfOk result (λ hand. from + length hand.share.bands.items ≡ to) }
+    ensures bands { IfOk result (λ hand. AreBandsOf layout.now cut.now from hand.share.bands.items) }
     ensures coins { IfOk result (λ hand. AreCoinsOf region.now layout.now (bit_at (B.word_at bits))
         hand.coins.pieces (B.words hand.coins.kept.bits) (B.word_at hand.coins.kept.bits)) }
     ensures is_cut { IsCut cut.now.rows cut.now.firsts }
@@ -144,6 +149,8 @@ pub fn hands_of<B: Bits + Drop>(
     ensures coins { IfOk result (λ hands. All (λ hand. AreCoinsOf region.now layout.now (bit_at (B.word_at first))
         hand.coins.pieces (B.words hand.coins.kept.bits) (B.word_at hand.coins.kept.bits)) hands.items) }
     ensures count { IfOk result (λ hands. length hands.items ≤ 2) }
+    ensures bands { IfOk result (λ hands. AreBandsOf layout.now cut.now 0 (flat_map (λ hand. hand.share.bands.items) hands.items)) }
+    ensures halves { IfOk result (λ hands. map (λ hand. length hand.share.bands.items) hands.items ≡ bands_by_hand (length cut.now.firsts)) }
 {
     let bands = cut.count();
     let half = bands - bands / 2;

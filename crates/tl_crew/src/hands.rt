@@ -15,22 +15,22 @@ use tl_io::Gate;
 /// A hand ends after so many rounds in which none of its bands could go on.
 pub const PATIENCE: u32 = 65_536;
 
-/// Which hand of which worker is at work on which sample, and the gate that is told.
-#[derive(Drop)]
-pub struct Watch<'a, G: Gate> {
-    pub gate: &'a G,
+/// Which hand of which worker is at work on which sample. A gate is told of it.
+#[derive(Clone, Copy)]
+pub struct Watch {
     pub worker: u32,
     pub hand: u32,
     pub sample: u32,
 }
 
 // A turn of each band. Tells whether one has swept a class.
-pub(crate) fn round<R: Wait, S: Sweeping, B: Bits, G: Gate>(
+pub(crate) fn round<R: Wait, S: Sweeping, B: Bits>(
     rt: &R,
     stretch: &S,
     coins: &mut Coins<B>,
     bands: &mut [Band],
-    watch: &Watch<'_, G>,
+    gate: &(dyn Gate + Sync),
+    watch: Watch,
 ) -> bool
     requires course { IsCourseOf (S.region stretch.now) (S.bits stretch.now) (S.course stretch.now) }
     requires from { (S.course stretch.now).from ≤ 2 ^ 30 }
@@ -46,7 +46,7 @@ pub(crate) fn round<R: Wait, S: Sweeping, B: Bits, G: Gate>(
     let mut has_swept = false;
     for j in 0..bands.len() {
         if bands[j].turn(rt, stretch, coins) {
-            watch.gate.hand(watch.worker, watch.hand, watch.sample);
+            gate.hand(watch.worker, watch.hand, watch.sample);
             has_swept = true;
         }
     }
@@ -63,12 +63,13 @@ pub(crate) fn are_done<S: Sweeping>(stretch: &S, bands: &[Band]) -> bool
 }
 
 /// Takes turns over these bands, until all classes are swept, or none could go on for long.
-pub fn hand<R: Wait, S: Sweeping, B: Bits, G: Gate>(
+pub fn hand<R: Wait, S: Sweeping, B: Bits>(
     rt: &R,
     stretch: &S,
     coins: &mut Coins<B>,
     bands: &mut [Band],
-    watch: &Watch<'_, G>,
+    gate: &(dyn Gate + Sync),
+    watch: Watch,
 )
     requires course { IsCourseOf (S.region stretch.now) (S.bits stretch.now) (S.course stretch.now) }
     requires from { (S.course stretch.now).from ≤ 2 ^ 30 }
@@ -86,7 +87,7 @@ pub fn hand<R: Wait, S: Sweeping, B: Bits, G: Gate>(
         if idle >= PATIENCE || are_done(stretch, bands) {
             return;
         }
-        if round(rt, stretch, coins, bands, watch) {
+        if round(rt, stretch, coins, bands, gate, watch) {
             idle = 0;
         } else {
             idle += 1;

@@ -113,14 +113,13 @@ pub fn sweep_by_hands<
     R: Threads + Wait + Sync,
     S: Sweeping + Sync,
     B: Bits + Send + Drop,
-    G: Gate + Sync,
 >(
     rt: &R,
     alloc: Global,
     stretch: &S,
     hands: &mut [Hand<B>],
     both: &mut Strings,
-    gate: &G,
+    gate: &(dyn Gate + Sync),
     worker: u32,
     sample: u32,
 ) -> Result<(), AllocError>

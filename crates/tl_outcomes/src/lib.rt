@@ -11,6 +11,6 @@ mod tests;
 
 pub use apart::draw_apart;
 pub use draw_job::DrawJob;
-pub use drawer::Drawer;
+pub use drawer::{Drawer, drawers};
 pub use noted::Noted;
 pub use outcome::Outcome;

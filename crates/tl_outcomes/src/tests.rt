@@ -85,7 +85,8 @@ fn draws_the_same<R: Threads + Sync>(
 {
     let (region, _) = read_region(alloc, text).ok()?;
     let (low, high) = ends(alloc, &region)?;
-    let apart = draw_apart(rt, alloc, &low, &high, job, is_ranked, &FreeGate).ok()?;
+    let drawers = drawers(alloc, &low, &high, job.workers).ok()?;
+    let apart = draw_apart(rt, alloc, low.region(), job, is_ranked, drawers, &FreeGate).ok()?;
     let in_turn = draw_in_turn(alloc, &low, &high, job, is_ranked).ok()?;
     Some(agree(apart.as_slice(), in_turn.as_slice()))
 }
@@ -127,7 +128,8 @@ fn last_drawing<R: Threads + Sync>(
 {
     let (region, _) = read_region(alloc, text).ok()?;
     let (low, high) = ends(alloc, &region)?;
-    let mut apart = draw_apart(rt, alloc, &low, &high, job, false, &FreeGate).ok()?;
+    let drawers = drawers(alloc, &low, &high, job.workers).ok()?;
+    let mut apart = draw_apart(rt, alloc, low.region(), job, false, drawers, &FreeGate).ok()?;
     let Outcome {
         region: _,
         job: _,

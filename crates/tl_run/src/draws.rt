@@ -1,10 +1,10 @@
 //! Samples drawn and written.
 
-ghost use Rattle.std.specs.Prelude.{◌≡◌, ◌≤◌, ◌++◌, true, length, Some, None, IfOk, OnOk, OnErr, if◌then◌else◌};
+ghost use Rattle.std.specs.Prelude.{◌≡◌, ◌≤◌, ◌++◌, true, length, All, Some, None, OnOk, OnErr, if◌then◌else◌};
 ghost use Rattle.tl_definitions.specs.Accepted.{Accepted};
 ghost use Rattle.tl_extreme.specs.Verdicts.{AreBottomHeights, AreTopHeights};
 ghost use Rattle.tl_height.specs.HeightFunction.{HeightFunction};
-ghost use Rattle.tl_outcomes.specs.Outcomes.{AreOutcomesOf, draw_of, EntriesOf, entry_of, IsWithin, is_rank};
+ghost use Rattle.tl_outcomes.specs.Outcomes.{AreOutcomesOf, draw_of, EntriesOf, entry_of, IsWithin};
 ghost use Rattle.tl_outcomes.specs.declared.draw_job.DrawJob.{DrawJob};
 ghost use Rattle.tl_text.specs.SampleLine.{sample_line};
 ghost use Rattle.tl_run.specs.Draws.{is_late_draw};
@@ -20,7 +20,8 @@ use std::thread::Threads;
 use tl_chain::Drawn;
 use tl_height::Heights;
 use tl_io::{Gate, Sink, WriteFault};
-use tl_outcomes::{Drawer, Noted, Outcome, draw_apart};
+use tl_outcomes::{Drawer, Noted, Outcome, draw_apart, drawers};
+use tl_sampler::Sampling;
 use tl_text::{SampleJob, sample_head};
 use tl_workers::Worker;
 
@@ -89,17 +90,18 @@ fn status_with(status: Status, drawn: Drawn) -> Status
 }
 
 // Draws the samples of all numbers below the count, one after the other, and writes them in order, gathered to pages.
-// After a failed write none is drawn. It takes no memory.
-fn write_in_turn<'a, K: Sink, G: Gate>(
+// After a failed write none is drawn. With a drawer of a sampler it takes no memory.
+fn write_in_turn<'a, E: Sampling, K: Sink, G: Gate>(
     count: u32,
     blank: Outcome<'a>,
-    drawer: &mut Drawer<'a>,
+    drawer: &mut Drawer<'a, E>,
     head: &[u8],
     gate: &G,
     sink: &mut K,
 ) -> Status
-    requires region { drawer.old.sampler.region ≡ blank.region.now }
+    requires region { (E.drawn drawer.old.sampler).region ≡ blank.region.now }
     requires bottom { AreBottomHeights blank.region.now drawer.old.bottom.now }
+    requires ready { E.can_draw drawer.old.sampler }
     requires bound { blank.job.now.bound ≤ 30 }
     requires accepted { Accepted blank.region.now }
     ensures { Writing (IsInEntries (EntriesOf (draw_of blank.entry)) head.now count) true
@@ -151,27 +153,54 @@ fn write_outcomes<K: Sink>(outcomes: &[Outcome], head: &[u8], sink: &mut K) -> S
     status
 }
 
-// Takes all memory that draws in turn need.
-fn prepare<'a>(
+/// Draws the samples that a job asks for by these drawers and writes them behind the head, in order. One drawer draws and
+/// writes them in turn. Several draw them beside each other, and they are written when all are drawn.
+pub fn write_drawn<'a, R: Threads + Sync, E: Sampling + Send + Drop, K: Sink, G: Gate + Sync>(
+    rt: &R,
     alloc: Global,
     low: &'a Heights<'a>,
-    high: &Heights<'a>,
     job: &'a SampleJob,
     is_ranked: bool,
-) -> Result<(Drawer<'a>, Outcome<'a>), AllocError>
+    mut drawers: Vec<Drawer<'a, E>>,
+    head: &[u8],
+    gate: &G,
+    sink: &mut K,
+) -> Status
     requires bottom { AreBottomHeights low.now.region low.now }
-    requires top { AreTopHeights low.now.region high.now }
-    ensures region { IfOk result (λ p. p.0.sampler.region ≡ low.now.region) }
-    ensures bottom { IfOk result (λ p. p.0.bottom.now ≡ low.now) }
-    ensures draw { IfOk result (λ p. (p.1.region.now ≡ low.now.region) × (p.1.job.now ≡ job.now) × (is_rank p.1.noted ≡ is_ranked)) }
+    requires within { IsWithin job.now }
+    requires some { 1 ≤ length drawers.items }
+    requires few { length drawers.items ≤ 64 }
+    requires of_region { All (λ d. (E.drawn d.sampler).region ≡ low.now.region) drawers.items }
+    requires from_bottom { All (λ d. d.bottom.now ≡ low.now) drawers.items }
+    requires ready { All (λ d. E.can_draw d.sampler) drawers.items }
+    ensures { Writing
+        (IsInEntries (EntriesOf (record { region = low.now.region; job = job.now; is_ranked = is_ranked })) head.now job.now.count)
+        true (K.state sink.old) (K.state sink.new) (code_of result) }
 {
-    let drawer = Drawer::new(alloc, low, high)?;
-    let blank = Outcome::blank(alloc, low.region(), job, is_ranked)?;
-    Ok((drawer, blank))
+    let region = low.region();
+    if drawers.len() == 1 {
+        match Outcome::blank(alloc, region, job, is_ranked) {
+            Ok(blank) => write_in_turn(job.count, blank, &mut drawers[0], head, gate, sink),
+            Err(AllocError) => Status::OutOfMemory,
+        }
+    } else {
+        match draw_apart(rt, alloc, region, job, is_ranked, drawers, gate) {
+            Ok(outcomes) => write_outcomes(&outcomes, head, sink),
+            Err(AllocError) => Status::OutOfMemory,
+        }
+    }
 }
 
-/// Draws the samples that a job asks for and writes them behind the head, in order. One worker draws and writes them in
-/// turn. Several draw them beside each other, and they are written when all are drawn.
+// How many drawers draw the samples of a job: a lone sample takes one.
+fn drawers_for(job: &SampleJob) -> u32
+    requires { IsWithin job.now }
+    ensures some { 1 ≤ result }
+    ensures few { result ≤ 16 }
+{
+    if job.count == 1 { 1 } else { job.workers }
+}
+
+/// Draws the samples that a job asks for by its workers, each with a sampler, and writes them behind the head, in order.
 pub fn write_draws<'a, R: Threads + Sync, K: Sink, G: Gate + Sync>(
     rt: &R,
     alloc: Global,
@@ -190,19 +219,8 @@ pub fn write_draws<'a, R: Threads + Sync, K: Sink, G: Gate + Sync>(
         (IsInEntries (EntriesOf (record { region = low.now.region; job = job.now; is_ranked = is_ranked })) head.now job.now.count)
         true (K.state sink.old) (K.state sink.new) (code_of result) }
 {
-    // the call tells that the region is accepted
-    let _region = low.region();
-    if job.workers == 1 || job.count == 1 {
-        match prepare(alloc, low, high, job, is_ranked) {
-            Ok((mut drawer, blank)) => {
-                write_in_turn(job.count, blank, &mut drawer, head, gate, sink)
-            }
-            Err(AllocError) => Status::OutOfMemory,
-        }
-    } else {
-        match draw_apart(rt, alloc, low, high, job, is_ranked, gate) {
-            Ok(outcomes) => write_outcomes(&outcomes, head, sink),
-            Err(AllocError) => Status::OutOfMemory,
-        }
+    match drawers(alloc, low, high, drawers_for(job)) {
+        Ok(drawers) => write_drawn(rt, alloc, low, job, is_ranked, drawers, head, gate, sink),
+        Err(AllocError) => Status::OutOfMemory,
     }
 }

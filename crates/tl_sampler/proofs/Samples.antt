@@ -1,6 +1,6 @@
 -- The chain of the heights and the tilings themselves: a start gathers the one exactly where it gathers the others, and the state
 -- to which the lawful ones are carried has the heights of the sample.
-use Rattle.std.proofs.Common.{◌≡◌, ◌↔◌, ℕ, zero, suc, ◌^◌, ◌<◌, ◌≤◌, Bool, List, [], ◌∷◌, length, refl, sym, ◌∙◌, ap, subst, ℤ}
+use Rattle.std.proofs.Common.{◌≡◌, ℕ, zero, suc, ◌^◌, Bool, List, [], ◌∷◌, length, refl, sym, ◌∙◌, ap, subst, ℤ}
 use Rattle.std.specs.Prelude.{fold, IsTrue}
 use Rattle.tl_definitions.specs.declared.Tile.{Tile}
 use Rattle.tl_definitions.specs.Lattice.{classes}
@@ -8,9 +8,9 @@ use Rattle.tl_definitions.specs.Region.{Region, inner_corners}
 use Rattle.tl_definitions.specs.Accepted.{Accepted}
 use Rattle.tl_definitions.specs.Tiling.{is_tiling}
 use Rattle.tl_definitions.specs.Heights.{AreHeights, AreLawful}
-use Rattle.tl_definitions.specs.Sweep.{carried, sweep, sweep_class, Gathers, IsSample, IsLate}
+use Rattle.tl_definitions.specs.Sweep.{carried, sweep, sweep_class, Gathers, IsLate}
 use Rattle.tl_lists.specs.Lists.{upto}
-use Rattle.tl_lists.specs.Powers.{IsLeastPower, NoPower}
+use Rattle.tl_lists.specs.Powers.{IsLeastPower}
 use Rattle.tl_closing.proofs.Stated.{has-heights, has-tiling, heights-lawful}
 use Rattle.tl_steps.proofs.Stated.{HasHeights, class-heights}
 use Rattle.tl_bits.specs.Bits.{bit_at, bits_of, words_for}

@@ -2,7 +2,9 @@
 #![tactic(auto)]
 
 mod sampler;
+mod sampling;
 #[cfg(test)]
 mod tests;
 
 pub use sampler::Sampler;
+pub use sampling::Sampling;

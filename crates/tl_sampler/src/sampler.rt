@@ -1,12 +1,9 @@
 //! Samples of one region.
 
-ghost use Rattle.std.specs.Prelude.{◌≡◌, ◌≤◌, IfOk, ℕ};
-ghost use Rattle.tl_definitions.specs.Sweep.{IsLate};
-ghost use Rattle.tl_bits.specs.Bits.{bits_of};
+ghost use Rattle.std.specs.Prelude.{◌≡◌, IfOk};
 ghost use Rattle.tl_lawful.specs.Order.{AreGreatest, AreLeast};
-ghost use Rattle.tl_chain.specs.declared.Drawn.TheVariants.{At, Late};
-ghost use Rattle.tl_sampler.specs.Drawn.{AreHeightsOfSample};
 
+use crate::sampling::Sampling;
 use std::alloc::{AllocError, Global};
 use std::marker::Model;
 use tl_bits::Numbered;
@@ -66,16 +63,17 @@ impl<'a> Sampler<'a> {
             chain,
         })
     }
+}
 
-    /// Draws the sample of this seed and number: `At` gives its start, and `Late` comes exactly where none of the starts
-    /// 1, 2, 4, .., `2^bound` gathers. It takes no memory.
-    pub fn draw(&mut self, seed: u64, number: u32, bound: u32) -> Drawn
-        requires { bound ≤ 30 }
-        ensures region { self.new.region ≡ self.old.region }
-        ensures at { (T : ℕ) → result ≡ At T
-            → AreHeightsOfSample self.old.region (bits_of self.old.region seed number) bound T self.new }
-        ensures late { result ≡ Late → IsLate self.old.region (bits_of self.old.region seed number) bound }
-    {
+impl<'a> Sampling for Sampler<'a> {
+    ghost use Rattle.std.specs.Prelude.{⊤};
+
+    ghost drawn = { λ s. s };
+
+    ghost can_draw = { λ s. ⊤ };
+
+    // It takes no memory.
+    fn draw(&mut self, seed: u64, number: u32, bound: u32) -> Drawn {
         let words = words_of(&self.sample);
         self.chain.set_bits(Numbered::new(seed, number, words));
         let drawn = draw(&mut self.chain, &mut self.low, &mut self.high, bound);
@@ -83,10 +81,7 @@ impl<'a> Sampler<'a> {
         drawn
     }
 
-    /// The heights of the sample that was drawn last, where it wasn't late.
-    pub fn sample(&self) -> &Heights<'a>
-        ensures { result.now ≡ self.now }
-    {
+    fn sample(&self) -> &Heights<'_> {
         &self.sample
     }
 }

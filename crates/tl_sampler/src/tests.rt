@@ -3,7 +3,7 @@
 ghost use Rattle.std.specs.Prelude.{◌≡◌, ◌≤◌, length, IfSome};
 ghost use Rattle.tl_definitions.specs.Accepted.{IsCircuit};
 
-use crate::Sampler;
+use crate::{Sampler, Sampling};
 use std::alloc::Global;
 use tl_bits::Numbered;
 use tl_boundary::{Circuit, circuit};

@@ -19,11 +19,12 @@ fill-requires c =
         c.loop-number.invariant.region ∙ sym same,
         subst (λ (R : Region). AreBottomHeights R c.loop-number.drawer.bottom.now) (sym same) c.loop-number.invariant.bottom,
         subst (λ (job : SampleJob). job.bound ≤ 30) (sym c.in_ok-blank.ensures.job) c.requires.bound,
+        tt,
       );
     }
 
 pub loop-number-preserved : goal.loop-number-preserved
 loop-number-preserved c =
     let draw : DrawJob = record { region = c.args.low.now.region; job = c.args.job.now; is_ranked = c.args.is_ranked } in
-    let serves = c.fill.ensures.serves draw (c.loop-number.invariant.region, c.loop-number.invariant.bottom, c.requires.bound) in
+    let serves = c.fill.ensures.serves draw (c.loop-number.invariant.region, c.loop-number.invariant.bottom, c.requires.bound, tt) in
     record { region = serves.0; bottom = serves.1 }

@@ -28,6 +28,7 @@ loop-number-init g c =
       same = refl;
       region = c.requires.region;
       bottom = c.requires.bottom;
+      ready = c.requires.ready;
       gathered =
           none-gathered (EntriesOf (draw_of c.args.blank)) head c.put.new.self start end
           (subst (λ (l : List ℕ). Gathers l head c.put.new.self start end) c.new-page.ensures c.in-Ok.ensures.whole);
@@ -39,8 +40,9 @@ fill-outcome-requires g c =
     let now = c.loop-number.invariant in
     record {
       serves =
-          subst (λ (draw : DrawJob). (drawer.sampler.region ≡ draw.region) × AreBottomHeights draw.region drawer.bottom.now × (draw.job.bound ≤ 30)) (sym now.same)
-          (now.region, now.bottom, c.requires.bound);
+          subst
+          (λ (draw : DrawJob). ((g.E.Sampling.drawn drawer.sampler).region ≡ draw.region) × AreBottomHeights draw.region drawer.bottom.now × (draw.job.bound ≤ 30)
+          × g.E.Sampling.can_draw drawer.sampler) (sym now.same) (now.region, now.bottom, c.requires.bound, now.ready);
     }
 
 pub returns-in_default-put_outcome : goal.returns-in_default-put_outcome
@@ -71,11 +73,12 @@ loop-number-preserved g c =
     let now = c.loop-number.invariant in
     let same : draw_of outcome ≡ draw = c.fill-outcome.ensures.job ∙ now.same in
     let filled : EntriesOf draw n entry = subst (λ (d : DrawJob). EntriesOf d n entry) same c.fill-outcome.ensures.filled in
-    let (region, bottom, bound) = c.fill-outcome.ensures.serves draw (now.region, now.bottom, c.requires.bound) in
+    let (region, bottom, bound, ready) = c.fill-outcome.ensures.serves draw (now.region, now.bottom, c.requires.bound, now.ready) in
     record {
       same = same;
       region = region;
       bottom = bottom;
+      ready = ready;
       gathered =
           subst (λ (s : ℕ). AreGathered (EntriesOf draw) c.args.head.now (n + 1) s page start end) (sym c.status_with-status.ensures)
           (one-gathered (EntriesOf draw) c.args.head.now n (code_of c.loop-number.status) entry outcome.drawn c.loop-number.page page start mid end now.gathered

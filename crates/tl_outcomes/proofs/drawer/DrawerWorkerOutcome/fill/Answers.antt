@@ -13,12 +13,12 @@ use Rattle.tl_outcomes.proofs.drawer.DrawerWorkerOutcome.fill.Goals as goal
 use Rattle.tl_outcomes.proofs.drawer.DrawerWorkerOutcome.fill.Goals.{in-At, in-Late}
 
 pub returns-clause-filled : goal.returns-clause-filled
-returns-clause-filled c =
+returns-clause-filled g c =
     let job = c.args.blank.job.now in
     let draw : DrawJob = record { region = c.args.blank.region.now; job = job; is_ranked = is_rank c.match-drawn.noted } in
     let n = c.args.number in
     let low = c.args.self.now.bottom.now in
-    let drawn_heights = c.draw-drawn.new.self in
+    let drawn_heights = g.E.Sampling.drawn c.draw-drawn.new.self in
     let same = c.requires.serves.0 in
     elim c.match-drawn.branch [
       | in-At w ↦

@@ -1,5 +1,5 @@
 use Rattle.std.proofs.Common.{◌≡◌, length, All}
-use Rattle.tl_outcomes.proofs.apart.drawers.Given as goal
+use Rattle.tl_outcomes.proofs.drawer.drawers.Given as goal
 
 abbrev pub invariant-loop-worker : goal.invariant-loop-worker
 invariant-loop-worker l =

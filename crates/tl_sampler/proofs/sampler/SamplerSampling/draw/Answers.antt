@@ -1,5 +1,5 @@
 use Rattle.std.proofs.Common.{◌≡◌, ℕ, length, sym, ◌∙◌, ap, subst}
-use Rattle.tl_definitions.specs.Region.{Region, inner_corners}
+use Rattle.tl_definitions.specs.Region.{inner_corners}
 use Rattle.tl_definitions.specs.Sweep.{IsLate}
 use Rattle.tl_bits.specs.Bits.{bits_of, words_for}
 use Rattle.tl_bits.specs.Sources.{Numbering}
@@ -7,8 +7,8 @@ use Rattle.tl_height.specs.HeightFunction.{HeightFunction}
 use Rattle.tl_packed.specs.PackedTiling.{PackedTiling}
 use Rattle.tl_sampler.specs.Drawn.{AreHeightsOfSample}
 use Rattle.tl_sampler.proofs.Samples.{drawn-late, drawn-sample}
-use Rattle.tl_sampler.proofs.sampler.Sampler.draw.Goals as goal
-use Rattle.tl_sampler.proofs.sampler.Sampler.draw.Goals.{After-set_bits}
+use Rattle.tl_sampler.proofs.sampler.SamplerSampling.draw.Goals as goal
+use Rattle.tl_sampler.proofs.sampler.SamplerSampling.draw.Goals.{After-set_bits}
 
 one_region : (c : After-set_bits) → c.set_bits.new.self.low.heights.region ≡ c.self.inside.sample.region
 one_region c = ap (λ (t : PackedTiling). t.heights.region) c.set_bits.ensures.low ∙ sym c.self.invariant.sample_region
