@@ -40,7 +40,14 @@ fn work<R: Wait, S: Sweeping, B: Bits>(
     ensures first { this.new.share.first ≡ this.old.share.first }
     ensures end { this.new.share.end ≡ this.old.share.end }
 {
-    hand(rt, stretch, &mut this.coins, &mut this.share.bands, gate, watch);
+    hand(
+        rt,
+        stretch,
+        &mut this.coins,
+        &mut this.share.bands,
+        gate,
+        watch,
+    );
 }
 
 // One turn of each band of one hand.
@@ -62,16 +69,26 @@ fn pass<R: Wait, S: Sweeping, B: Bits>(
     ensures first { this.new.share.first ≡ this.old.share.first }
     ensures end { this.new.share.end ≡ this.old.share.end }
 {
-    round(rt, stretch, &mut this.coins, &mut this.share.bands, gate, watch);
+    round(
+        rt,
+        stretch,
+        &mut this.coins,
+        &mut this.share.bands,
+        gate,
+        watch,
+    );
 }
 
 /// Has all hands sweep beside each other, each on a thread of its own where one can be had. A hand ends when its bands are
 /// done, or none of them could go on for long.
-pub fn sweep_apart<
-    R: Threads + Wait + Sync,
-    S: Sweeping + Sync,
-    B: Bits + Send + Drop,
->(rt: &R, stretch: &S, hands: &mut [Hand<B>], gate: &(dyn Gate + Sync), worker: u32, sample: u32)
+pub fn sweep_apart<R: Threads + Wait + Sync, S: Sweeping + Sync, B: Bits + Send + Drop>(
+    rt: &R,
+    stretch: &S,
+    hands: &mut [Hand<B>],
+    gate: &(dyn Gate + Sync),
+    worker: u32,
+    sample: u32,
+)
     requires course { IsCourseOf (S.region stretch.now) (S.bits stretch.now) (S.course stretch.now) }
     requires from { (S.course stretch.now).from ≤ 2 ^ 30 }
     requires count { length hands.old ≤ 64 }

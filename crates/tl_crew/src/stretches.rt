@@ -109,11 +109,7 @@ fn store<S: Sweeping, B: Bits>(stretch: &S, hands: &[Hand<B>], both: &mut String
 ///
 /// # Errors
 /// Want of memory for the borders. Nothing is swept then, and `both` is as it was.
-pub fn sweep_by_hands<
-    R: Threads + Wait + Sync,
-    S: Sweeping + Sync,
-    B: Bits + Send + Drop,
->(
+pub fn sweep_by_hands<R: Threads + Wait + Sync, S: Sweeping + Sync, B: Bits + Send + Drop>(
     rt: &R,
     alloc: Global,
     stretch: &S,
