@@ -3,6 +3,8 @@
 
 mod carry;
 mod chain;
+#[cfg(test)]
+mod tests;
 
 pub use carry::Company;
 pub use chain::BandedChain;
